@@ -4,7 +4,6 @@ use Rattle.std.proofs.Common.{◌≡◌, ◌≢◌, ℕ, zero, suc, ◌+◌, ◌
 use Rattle.std.proofs.Common.{◌∙◌, subst, Some, ⊎_elim, inl, inr, arith, length-append, length-take, eqb}
 use Rattle.std.proofs.Math.ListN.{set}
 use Rattle.std.specs.Prelude.{slice_get}
-use Rattle.std.specs.Int.{bit_at}
 use Rattle.std.specs.Int.Count.{count_trailing_zeros}
 use Rattle.std.proofs.lemmas.Bool.{false≢true, false_from_ne_true, cases_eq, cases_lt}
 use Rattle.std.proofs.lemmas.List.{length-set}
@@ -12,7 +11,7 @@ use Rattle.std.proofs.lemmas.Nat.{div-add-mod', row_below_turned}
 use Rattle.std.proofs.Math.Nat.{mod-lt}
 use Rattle.std.proofs.Math.Pow.{pow_pos}
 use Rattle.std.proofs.lemmas.Nat.Bits.{bit_at_above}
-use Rattle.std.proofs.lemmas.Option.{slice_get_within, same_Some}
+use Rattle.std.proofs.lemmas.Option.{slice_get_within}
 use Rattle.hx_board.specs.declared.colours.Colour.{Colour}
 use Rattle.hx_board.specs.declared.vertices.Vertex.{Vertex}
 use Rattle.hx_board.specs.declared.vertices.Vertex.TheVariants.{Of, First, Last}
@@ -29,7 +28,7 @@ use Rattle.hx_linkset.specs.declared.blocks.Block.{Block}
 use Rattle.hx_linkset.specs.declared.liveness.Losses.{Losses}
 use Rattle.hx_linkset.specs.States.{IsLive}
 use Rattle.hx_linkset.specs.Losses.{AreLosses}
-use Rattle.hx_linkset.specs.Touches.{IsOf, Touch, RowHas, AreBlocksOf, HasTouched, Sought, NoneTouched, MayBeNext}
+use Rattle.hx_linkset.specs.Touches.{IsOf, Touch, RowHas, AreBlocksOf, HasTouched, Sought, NoneTouched}
 use Rattle.hx_linkset.proofs.BlockLaws.{IsLowestOf, lowest-of_word}
 use Rattle.hx_linkset.proofs.HeadLaws.{live-some}
 use Rattle.hx_linkset.proofs.LossLaws.{untaken-end, untaken-live}

@@ -20,7 +20,7 @@ Touch cells link = (cell : ℕ) × ((has cells cell ≡ true) × IsOf cell link)
 abbrev pub RowHas : Block → ℕ → ℕ → Type 0
 RowHas block cell number = has (slice_index block.rows cell) number ≡ true
 
--- each link has its number in the row of each cell that is of it
+-- each link has its number, within its block, in the row of each cell that is of it
 pub record AreBlocksOf (links : List Link) (blocks : List Block) : Type 0 where
   pub enough : length links ≤ BLOCK * length blocks
   pub rows : (place number cell : ℕ) (block : Block) (link : Link) → number < BLOCK
@@ -42,7 +42,7 @@ abbrev pub NoneTouched : Sought → ℕ → ℕ → Type 0
 NoneTouched sought from bound = (place : ℕ) (link : Link) → from ≤ place → place < bound
     → slice_get sought.links place ≡ Some link → Touch sought.cells link → ⊥
 
--- the place from which on a touched link may be next
+-- a place, from another one on, before which no link is touched
 pub record MayBeNext (sought : Sought) (from place : ℕ) : Type 0 where
   pub order : from ≤ place
   pub inside : place < length sought.links

@@ -4,8 +4,7 @@
 //! stand blocks, which tell of each cell the links in whose carriers it is or that end there: the pass of a play goes to
 //! those that its cells touch, and looks at no other link.
 //!
-//! The blocks may tell of more links than a cell touches, but of none too few. So whoever is told of a link looks at
-//! it.
+//! Promised is only that the blocks miss no link that a cell touches. So each link that they tell of is looked at.
 
 ghost use Rattle.std.specs.Prelude.{◌≡◌, ◌/◌, ◌^◌, ◌<◌, ◌≤◌, List, [], ◌++◌, ◌∷◌, take, length, vec_len, MatchOption, OnOk, OnErr};
 ghost use Rattle.hx_link.specs.declared.links.Link.{Link};
@@ -130,7 +129,7 @@ impl HeldLinks {
     }
 }
 
-/// Makes room for a block of links that come after all others. Without memory none is made.
+/// Puts a block of no link after the others, where the block with this number is not there yet.
 fn make_room(blocks: &mut Vec<Block>, block: usize) -> Result<(), Memory>
     requires { block ≤ vec_len blocks.old }
     ensures ok { OnOk result (block < vec_len blocks.new) }
@@ -170,7 +169,7 @@ impl<'a> Model for Touched<'a> {
 }
 
 impl<'a> Touched<'a> {
-    /// The first place from which on one of them may be next.
+    /// The next place, from one on, at which one of them may stand. None where no more of them stand.
     #[inline(always)]
     pub(crate) fn first_from(&mut self, from: usize) -> Option<usize>
         ensures same { self.new ≡ self.old }
@@ -183,7 +182,11 @@ impl<'a> Touched<'a> {
             let rest = self.numbers_in(at / BLOCK) >> number;
             if rest != 0 {
                 let place = at + rest.trailing_zeros() as usize;
-                return if place < self.links.len() { Some(place) } else { None };
+                return if place < self.links.len() {
+                    Some(place)
+                } else {
+                    None
+                };
             }
             at += BLOCK - number;
         }

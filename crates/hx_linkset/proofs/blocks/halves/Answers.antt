@@ -1,5 +1,3 @@
-use Rattle.std.proofs.Common.{◌≡◌, ◌∙◌, ap, ℕ, ◌/◌, ◌%◌, ◌^◌}
-use Rattle.hx_board.specs.Sets.{has}
 use Rattle.hx_board.proofs.SetLaws.{has-earlier}
 use Rattle.hx_linkset.proofs.BlockLaws.{low-half}
 use Rattle.hx_linkset.proofs.blocks.halves.Goals as goal

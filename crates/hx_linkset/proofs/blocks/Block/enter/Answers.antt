@@ -1,4 +1,4 @@
-use Rattle.std.proofs.Common.{◌≡◌, ℕ, ◌+◌, ◌-◌, ◌<◌, true, slice_index, arith, ⊎_elim, subst, sym, ◌∙◌}
+use Rattle.std.proofs.Common.{◌≡◌, ℕ, ◌+◌, ◌-◌, true, slice_index, arith, ⊎_elim, subst, sym, ◌∙◌}
 use Rattle.std.proofs.lemmas.Bool.{cases_lt}
 use Rattle.hx_board.specs.Sets.{has}
 use Rattle.hx_linkset.proofs.blocks.Block.enter.Goals as goal

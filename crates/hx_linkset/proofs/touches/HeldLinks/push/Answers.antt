@@ -1,9 +1,7 @@
-use Rattle.std.proofs.Common.{◌≡◌, ◌≢◌, ◌+◌, ◌*◌, ◌/◌, ◌%◌, ◌<◌, ◌&&◌, ℕ, true, length, refl, sym, arith, rules, ◌∙◌, ⊎_elim, subst}
-use Rattle.std.specs.Prelude.{slice_get, vec_len, nat_lt}
+use Rattle.std.proofs.Common.{◌≡◌, ◌/◌, ◌%◌, ◌<◌, ℕ, length, refl, arith, rules, ◌∙◌, ⊎_elim}
 use Rattle.std.proofs.lemmas.Bool.{lt-ltb, and_from}
 use Rattle.std.proofs.lemmas.Option.{slice_get_read}
 use Rattle.std.proofs.lemmas.Nat.{div-add-mod'}
-use Rattle.hx_board.specs.Sets.{has}
 use Rattle.hx_board.proofs.SetLaws.{has-insert_same, has-insert_other}
 use Rattle.hx_linkset.specs.Touches.{IsOf, RowHas}
 use Rattle.hx_linkset.proofs.TouchLaws.{below-block, blocks-more}

@@ -1,5 +1,4 @@
-use Rattle.std.proofs.Common.{◌≡◌, ◌+◌, ◌/◌, ◌<◌, length, take, refl, Some, arith, rules}
-use Rattle.std.specs.Prelude.{slice_get}
+use Rattle.std.proofs.Common.{◌+◌, ◌/◌, ◌<◌, length, take, refl, arith}
 use Rattle.std.proofs.lemmas.Option.{slice_get_read}
 use Rattle.hx_linkset.proofs.TouchLaws.{block-left, blocks-fewer}
 use Rattle.hx_linkset.proofs.touches.HeldLinks.truncate.Goals as goal

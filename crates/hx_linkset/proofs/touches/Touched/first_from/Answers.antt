@@ -1,4 +1,4 @@
-use Rattle.std.proofs.Common.{◌≡◌, ℕ, ◌+◌, ◌-◌, ◌/◌, ◌^◌, ◌%◌, ◌≤◌, ◌<◌, length, arith, refl, sym, ◌∙◌, ap, subst, Option}
+use Rattle.std.proofs.Common.{◌≡◌, ℕ, ◌+◌, ◌/◌, ◌^◌, ◌%◌, length, arith, sym, ◌∙◌, ap, subst, Option}
 use Rattle.std.specs.Prelude.{MatchOption}
 use Rattle.std.specs.Int.Count.{count_trailing_zeros}
 use Rattle.hx_linkset.specs.Touches.{NoneTouched, MayBeNext, HasTouched, Sought}
@@ -21,7 +21,7 @@ returns-then-rest-ne0-clause-found c =
     let Q : Option ℕ → Type 0 = λ r. MatchOption r (NoneTouched c.args.self.now c.args.from (length c.args.self.now.links))
     (MayBeNext c.args.self.now c.args.from) in
     elim c.if-place-len.branch [
-      then-place-len w ↦ subst Q (sym w.result-is) (record {
+      | then-place-len w ↦ subst Q (sym w.result-is) (record {
         order = omega (arith, c.loop-at.invariant.order);
         inside = omega (arith, long, w.if-place-len.true);
         before = before;

@@ -1,4 +1,4 @@
-use Rattle.std.proofs.Common.{◌≡◌, ℕ, ◌-◌, ◌≤◌, length}
+use Rattle.std.proofs.Common.{◌≡◌, ◌-◌, ◌≤◌, length}
 use Rattle.hx_linkset.specs.Touches.{NoneTouched}
 use Rattle.hx_linkset.proofs.touches.Touched.first_from.Given as goal
 
