@@ -22,36 +22,36 @@ pub after-done : {F : Type 0} (proved : List Node → F → Type 0) (tried : Typ
 after-done proved tried book counts place done same is = subst (IsAfter proved tried book counts) same is
 
 module _ {F : Type 0} (proved : List Node → F → Type 0) (books : List Reader) (counts : List Seat) (book : Reader) (seat : Seat)
-    where
-  end-more : (end : Result F RanOut) → IsEndOfSome proved books counts end
-      → IsEndOfSome proved (books ++ book ∷ []) (counts ++ seat ∷ []) end
-  end-more end some = record {
-    place = some.place;
-    book = some.book;
-    seat = some.seat;
-    book_there = get-push_before books book some.place some.book some.book_there;
-    seat_there = get-push_before counts seat some.place some.seat some.seat_there;
-    ended = some.ended;
-  }
+  where
+    end-more : (end : Result F RanOut) → IsEndOfSome proved books counts end
+        → IsEndOfSome proved (books ++ book ∷ []) (counts ++ seat ∷ []) end
+    end-more end some = record {
+      place = some.place;
+      book = some.book;
+      seat = some.seat;
+      book_there = get-push_before books book some.place some.book some.book_there;
+      seat_there = get-push_before counts seat some.place some.seat some.seat_there;
+      ended = some.ended;
+    }
 
-  end-last : (end : Result F RanOut) → length books ≡ length counts → IsEndedBy proved (sight_of book) seat end
-      → IsEndOfSome proved (books ++ book ∷ []) (counts ++ seat ∷ []) end
-  end-last end same ended = record {
-    place = length books;
-    book = book;
-    seat = seat;
-    book_there = get-push_last books book;
-    seat_there = subst (λ (n : ℕ). slice_get (counts ++ seat ∷ []) n ≡ Some seat) (sym same) (get-push_last counts seat);
-    ended = ended;
-  }
+    end-last : (end : Result F RanOut) → length books ≡ length counts → IsEndedBy proved (sight_of book) seat end
+        → IsEndOfSome proved (books ++ book ∷ []) (counts ++ seat ∷ []) end
+    end-last end same ended = record {
+      place = length books;
+      book = book;
+      seat = seat;
+      book_there = get-push_last books book;
+      seat_there = subst (λ (n : ℕ). slice_get (counts ++ seat ∷ []) n ≡ Some seat) (sym same) (get-push_last counts seat);
+      ended = ended;
+    }
 
-  pub ends-more : (ends : List (Result F RanOut)) (end : Result F RanOut) → length books ≡ length counts
-      → All (IsEndOfSome proved books counts) ends → IsEndedBy proved (sight_of book) seat end
-      → All (IsEndOfSome proved (books ++ book ∷ []) (counts ++ seat ∷ [])) (ends ++ end ∷ [])
-  ends-more ends end same all ended = All-push (IsEndOfSome proved (books ++ book ∷ []) (counts ++ seat ∷ [])) ends end
-      (All-weaker (IsEndOfSome proved books counts)
-      (IsEndOfSome proved (books ++ book ∷ []) (counts ++ seat ∷ [])) end-more ends all)
-      (end-last end same ended)
+    pub ends-more : (ends : List (Result F RanOut)) (end : Result F RanOut) → length books ≡ length counts
+        → All (IsEndOfSome proved books counts) ends → IsEndedBy proved (sight_of book) seat end
+        → All (IsEndOfSome proved (books ++ book ∷ []) (counts ++ seat ∷ [])) (ends ++ end ∷ [])
+    ends-more ends end same all ended = All-push (IsEndOfSome proved (books ++ book ∷ []) (counts ++ seat ∷ [])) ends end
+        (All-weaker (IsEndOfSome proved books counts)
+        (IsEndOfSome proved (books ++ book ∷ []) (counts ++ seat ∷ [])) end-more ends all)
+        (end-last end same ended)
 
 pub tried-more : {F : Type 0} (tried : Type 0) (counts : List Seat) (seat : Seat) (ends : List (Result F RanOut))
     (end : Result F RanOut) → HaveAllTried tried counts ends → HasTried tried seat end → HaveAllTried tried (counts ++ seat ∷ []) (ends ++ end ∷ [])

@@ -60,11 +60,7 @@ impl<R: Wait> LastLook<'_, R> {
     }
 
     /// Stores the proof by a chain of a player's.
-    fn by_chain<P: Proofs>(
-        &self,
-        proofs: &mut P,
-        player: Colour,
-    ) -> Result<Option<Found>, RanOut>
+    fn by_chain<P: Proofs>(&self, proofs: &mut P, player: Colour) -> Result<Option<Found>, RanOut>
         ensures looks { Looks self.now (P.sight proofs.old) (P.sight proofs.new) result }
         ensures no_chain { IfNothing result (HasChain self.now.position.now player → ⊥) }
     {
