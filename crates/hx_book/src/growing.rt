@@ -57,7 +57,8 @@ pub trait Proofs {
         winner: Colour,
     ) -> Option<Wider>
         ensures grew { Grows (sight self.old) (sight self.new) }
-        ensures found { FindsWider is_plain (sight self.new).list position.now to_move winner result };
+        ensures found { FindsWider is_plain (sight self.new).list
+            position.now to_move winner result };
 
     /// Stores a node that is right after those that were seen, and plain where the list is. The index of the entry of
     /// its position and mover, of the nodes that are now seen. The node comes back exactly where there is no such entry
