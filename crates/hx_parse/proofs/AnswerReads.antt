@@ -13,7 +13,7 @@ use Rattle.hx_lex.specs.Words.{Reads, IsNumber, cell_word, words_in}
 use Rattle.hx_text.specs.Entries.{reason_words, answer_line, AnswerFits}
 use Rattle.hx_parse.specs.EntryReads.{AnswersAt}
 use Rattle.hx_lex.proofs.Cursors.{first_same, rest_same, word_then}
-use Rattle.hx_text.proofs.StepWords.{first_letter}
+use Rattle.hx_text.proofs.StepWords.{letters_same}
 use Rattle.hx_lex.proofs.Spacing.{line_from_words}
 use Rattle.hx_lex.proofs.Injective.{cell_injective}
 use Rattle.hx_text.proofs.AnswerLines.{words_in-answer_line}
@@ -30,14 +30,8 @@ child_reads size cell words rest None first none = λ value fits e. no_child val
   where
     no_child : (value : Line) → AnswersAt size cell value → words ≡ reason_words value → ⊥
     no_child (Child at child) fits e = none (Child at child) (child, ap (λ (c : ℕ). Child c child) fits.0, fits.1, rest_same first e)
-    no_child (Under at better ByDead) fits e =
-        let letters : first_letter (codes "child" ∷ rest) ≡ first_letter (reason_words (Under at better ByDead)) =
-        ap first_letter (sym first ∙ e) in
-        absurd (omega (arith, letters))
-    no_child (Under at better (ByPair partner)) fits e =
-        let letters : first_letter (codes "child" ∷ rest) ≡ first_letter (reason_words (Under at better (ByPair partner))) =
-        ap first_letter (sym first ∙ e) in
-        absurd (omega (arith, letters))
+    no_child (Under at better ByDead) fits e = absurd (omega (arith, letters_same first e))
+    no_child (Under at better (ByPair partner)) fits e = absurd (omega (arith, letters_same first e))
 
 pub dead_reads : (size : Extent) (cell : ℕ) (words rest : List (List ℕ)) (found : Option Line) → words ≡ codes "dead" ∷ rest
     → Finds found (λ line. (better : ℕ) × (line ≡ Under cell better ByDead) × OnBoard size better × (rest ≡ cell_word better ∷ []))
@@ -48,13 +42,8 @@ dead_reads size cell words rest None first none = λ value fits e. no_dead value
     no_dead : (value : Line) → AnswersAt size cell value → words ≡ reason_words value → ⊥
     no_dead (Under at better ByDead) fits e =
         none (Under at better ByDead) (better, ap (λ (c : ℕ). Under c better ByDead) fits.0, fits.1, rest_same first e)
-    no_dead (Child at child) fits e =
-        let letters : first_letter (codes "dead" ∷ rest) ≡ first_letter (reason_words (Child at child)) = ap first_letter (sym first ∙ e) in
-        absurd (omega (arith, letters))
-    no_dead (Under at better (ByPair partner)) fits e =
-        let letters : first_letter (codes "dead" ∷ rest) ≡ first_letter (reason_words (Under at better (ByPair partner))) =
-        ap first_letter (sym first ∙ e) in
-        absurd (omega (arith, letters))
+    no_dead (Child at child) fits e = absurd (omega (arith, letters_same first e))
+    no_dead (Under at better (ByPair partner)) fits e = absurd (omega (arith, letters_same first e))
 
 pub pair_reads : (size : Extent) (cell : ℕ) (words rest : List (List ℕ)) (found : Option Line) → words ≡ codes "pair" ∷ rest
     → Finds found (λ line. (better partner : ℕ) × (line ≡ Under cell better (ByPair partner)) × OnBoard size better × OnBoard size partner
@@ -67,13 +56,8 @@ pair_reads size cell words rest None first none = λ value fits e. no_pair value
     no_pair (Under at better (ByPair partner)) fits e =
         none (Under at better (ByPair partner))
         (better, partner, ap (λ (c : ℕ). Under c better (ByPair partner)) fits.0, fits.1.0, fits.1.1, rest_same first e)
-    no_pair (Child at child) fits e =
-        let letters : first_letter (codes "pair" ∷ rest) ≡ first_letter (reason_words (Child at child)) = ap first_letter (sym first ∙ e) in
-        absurd (omega (arith, letters))
-    no_pair (Under at better ByDead) fits e =
-        let letters : first_letter (codes "pair" ∷ rest) ≡ first_letter (reason_words (Under at better ByDead)) =
-        ap first_letter (sym first ∙ e) in
-        absurd (omega (arith, letters))
+    no_pair (Child at child) fits e = absurd (omega (arith, letters_same first e))
+    no_pair (Under at better ByDead) fits e = absurd (omega (arith, letters_same first e))
 
 -- the words begin with none of the three
 pub no_reason : {words : List (List ℕ)} → ((rest : List (List ℕ)) → words ≡ codes "child" ∷ rest → ⊥)

@@ -259,6 +259,12 @@ module _ (preamble : Preamble) (head : Head) (steps : List Step) (threats : List
       node_lines-parts node_for ∙ ap (λ (h : Head). head_line h ∷ map entry_line (entries_of node_for.rule)) head_of-node_for
       ∙ ap (λ (es : List Entry). head_line head ∷ map entry_line es) entries_of-node_for
 
+-- a list with so many items behind it that it is as long as it was told to be
+filled_up : {X : Type 0} (items : List X) (told : ℕ) (item : X) → length items ≤ told
+    → length (items ++ replicate (told - length items) item) ≡ told
+filled_up items told item few =
+    omega (arith, length-append items (replicate (told - length items) item), length-replicate (told - length items) item)
+
 pub inside_begins_node : (begun : Begun) (nodes : List Node) (lines : List (List ℕ)) → StandsInside begun nodes lines
     → EndsInNode begun.so_far.preamble nodes lines
 unfolding stand_ins
@@ -266,34 +272,10 @@ inside_begins_node begun nodes lines inside =
     let stands = inside.begun_so in
     let order = stands.in_order in
     let preamble : Preamble = begun.so_far.preamble in
-    let s : length (all_steps begun) ≡ steps_told begun.head.opening =
-    omega (
-      arith,
-      length-append begun.steps.items (stand_ins begun).steps,
-      length-replicate (steps_told begun.head.opening - length begun.steps.items) any_step,
-      order.steps,
-    ) in
-    let t : length (all_threats begun) ≡ threats_told begun.head.opening =
-    omega (
-      arith,
-      length-append begun.threats.items (stand_ins begun).threats,
-      length-replicate {A = ℕ} (threats_told begun.head.opening - length begun.threats.items) 0,
-      order.threats,
-    ) in
-    let l : length (all_lines begun) ≡ answers_told begun.head.opening =
-    omega (
-      arith,
-      length-append begun.lines.items (stand_ins begun).lines,
-      length-replicate (answers_told begun.head.opening - length begun.lines.items) any_answer,
-      order.answers,
-    ) in
-    let f : length (all_fills begun) ≡ fills_told begun.head.opening =
-    omega (
-      arith,
-      length-append begun.fills.items (stand_ins begun).fills,
-      length-replicate (fills_told begun.head.opening - length begun.fills.items) any_fill,
-      order.fills,
-    ) in
+    let s : length (all_steps begun) ≡ steps_told begun.head.opening = filled_up begun.steps.items _ any_step order.steps in
+    let t : length (all_threats begun) ≡ threats_told begun.head.opening = filled_up begun.threats.items _ 0 order.threats in
+    let l : length (all_lines begun) ≡ answers_told begun.head.opening = filled_up begun.lines.items _ any_answer order.answers in
+    let f : length (all_fills begun) ≡ fills_told begun.head.opening = filled_up begun.fills.items _ any_fill order.fills in
     let each : EachEntryFits preamble.size (entries_for (all_steps begun) (all_threats begun) (all_lines begun) (all_fills begun)) =
     subst (EachEntryFits preamble.size) (sym (whole_entries begun order))
     (EachEntryFits-append preamble.size (entries_in begun) (rest_of begun) stands.each

@@ -1,6 +1,6 @@
 -- What is read from the line of a fill step. The first word tells what the other words are: `other`, `dead` and `pair`
 -- begin with different letters.
-use Rattle.std.proofs.Common.{◌≡◌, ℕ, List, [], ◌∷◌, refl, sym, ap, ◌∙◌, arith, Option, Some, None}
+use Rattle.std.proofs.Common.{◌≡◌, ℕ, List, [], ◌∷◌, refl, ◌∙◌, arith, Option, Some, None, Bool, true, false}
 use Rattle.std.specs.Prelude.{codes}
 use Rattle.hx_board.specs.Cells.{Extent, IsExtent, OnBoard}
 use Rattle.hx_board.specs.Finds.{Finds}
@@ -9,7 +9,7 @@ use Rattle.hx_inferior.specs.declared.fills.FillStep.TheVariants.{Other, Dead, P
 use Rattle.hx_lex.specs.Words.{Reads, cell_word, words_in}
 use Rattle.hx_text.specs.FillTexts.{fill_words, fill_line, FillFits}
 use Rattle.hx_lex.proofs.Cursors.{rest_same, word_then}
-use Rattle.hx_text.proofs.StepWords.{first_letter}
+use Rattle.hx_text.proofs.StepWords.{letters_same}
 use Rattle.hx_lex.proofs.Spacing.{line_from_words}
 use Rattle.hx_text.proofs.FillLines.{words_in-fill_line}
 
@@ -17,29 +17,30 @@ use Rattle.hx_text.proofs.FillLines.{words_in-fill_line}
 
 -- what is found in the words after the first is read from all the words
 
-pub other_reads : (size : Extent) (words rest : List (List ℕ)) (found : Option FillStep) → words ≡ codes "other" ∷ rest
-    → Finds found (λ fill. (cell : ℕ) × (fill ≡ Other cell) × OnBoard size cell × (rest ≡ cell_word cell ∷ []))
-    → Reads fill_words (FillFits size) words found
-other_reads size words rest (Some fill) first is = rw is.1 (is.2, word_then first is.3)
-other_reads size words rest None first none = λ value fits e. no_other value fits e
-  where
-    no_other : (value : FillStep) → FillFits size value → words ≡ fill_words value → ⊥
-    no_other (Other cell) fits e = none (Other cell) (cell, refl, fits, rest_same first e)
-    no_other value fits e =
-        let letters : first_letter (codes "other" ∷ rest) ≡ first_letter (fill_words value) = ap first_letter (sym first ∙ e) in
-        absurd (omega (arith, letters))
+-- a fill step on one cell, which is the opponent's or dead
+abbrev one_word : Bool → List ℕ
+one_word true = codes "dead"
+one_word false = codes "other"
 
-pub dead_reads : (size : Extent) (words rest : List (List ℕ)) (found : Option FillStep) → words ≡ codes "dead" ∷ rest
-    → Finds found (λ fill. (cell : ℕ) × (fill ≡ Dead cell) × OnBoard size cell × (rest ≡ cell_word cell ∷ []))
-    → Reads fill_words (FillFits size) words found
-dead_reads size words rest (Some fill) first is = rw is.1 (is.2, word_then first is.3)
-dead_reads size words rest None first none = λ value fits e. no_dead value fits e
-  where
-    no_dead : (value : FillStep) → FillFits size value → words ≡ fill_words value → ⊥
-    no_dead (Dead cell) fits e = none (Dead cell) (cell, refl, fits, rest_same first e)
-    no_dead value fits e =
-        let letters : first_letter (codes "dead" ∷ rest) ≡ first_letter (fill_words value) = ap first_letter (sym first ∙ e) in
-        absurd (omega (arith, letters))
+abbrev one_fill : Bool → ℕ → FillStep
+one_fill true cell = Dead cell
+one_fill false cell = Other cell
+
+abbrev IsOneFill : Bool → Extent → List (List ℕ) → FillStep → Type 0
+IsOneFill dead size rest fill = (cell : ℕ) × (fill ≡ one_fill dead cell) × OnBoard size cell × (rest ≡ cell_word cell ∷ [])
+
+no_one_fill : (dead : Bool) (size : Extent) (value : FillStep) (words rest : List (List ℕ)) → words ≡ one_word dead ∷ rest
+    → ((fill : FillStep) → IsOneFill dead size rest fill → ⊥) → FillFits size value → words ≡ fill_words value → ⊥
+no_one_fill true size (Dead cell) words rest first none fits e = none (Dead cell) (cell, refl, fits, rest_same first e)
+no_one_fill false size (Other cell) words rest first none fits e = none (Other cell) (cell, refl, fits, rest_same first e)
+no_one_fill true size value words rest first none fits e = absurd (omega (arith, letters_same first e))
+no_one_fill false size value words rest first none fits e = absurd (omega (arith, letters_same first e))
+
+pub one_reads : (dead : Bool) (size : Extent) (words rest : List (List ℕ)) (found : Option FillStep) → words ≡ one_word dead ∷ rest
+    → Finds found (IsOneFill dead size rest) → Reads fill_words (FillFits size) words found
+one_reads true size words rest (Some fill) first is = rw is.1 (is.2, word_then first is.3)
+one_reads false size words rest (Some fill) first is = rw is.1 (is.2, word_then first is.3)
+one_reads dead size words rest None first none = λ value fits e. no_one_fill dead size value words rest first none fits e
 
 pub pair_reads : (size : Extent) (words rest : List (List ℕ)) (found : Option FillStep) → words ≡ codes "pair" ∷ rest
     → Finds found (λ fill. (a b : ℕ) × (fill ≡ Pair a b) × OnBoard size a × OnBoard size b × (rest ≡ cell_word a ∷ cell_word b ∷ []))
@@ -49,9 +50,7 @@ pair_reads size words rest None first none = λ value fits e. no_pair value fits
   where
     no_pair : (value : FillStep) → FillFits size value → words ≡ fill_words value → ⊥
     no_pair (Pair a b) fits e = none (Pair a b) (a, b, refl, fits.0, fits.1, rest_same first e)
-    no_pair value fits e =
-        let letters : first_letter (codes "pair" ∷ rest) ≡ first_letter (fill_words value) = ap first_letter (sym first ∙ e) in
-        absurd (omega (arith, letters))
+    no_pair value fits e = absurd (omega (arith, letters_same first e))
 
 -- the words begin with none of the three
 pub no_fill_step : {words : List (List ℕ)} → ((rest : List (List ℕ)) → words ≡ codes "other" ∷ rest → ⊥)

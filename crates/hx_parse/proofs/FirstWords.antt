@@ -2,7 +2,7 @@
 -- other words are none of that kind, the line's words are those of no step and of no opening, since the first words of
 -- each kind begin with different letters.
 use Rattle.std.proofs.Common.{◌≡◌, ℕ, ◌<◌, ◌≤◌, List, [], ◌∷◌, length, map, refl}
-use Rattle.std.proofs.Common.{sym, ap, ◌∙◌, arith, Option, Some, None, Result, Ok, Err}
+use Rattle.std.proofs.Common.{sym, ◌∙◌, arith, Option, Some, None, Result, Ok, Err, Bool, true, false}
 use Rattle.std.specs.Prelude.{codes}
 use Rattle.std.specs.List.{All as EachItem}
 use Rattle.std.specs.Result.{IfOk, OnErr}
@@ -27,7 +27,7 @@ use Rattle.hx_text.specs.TreeTexts.{opening_words, OpeningFits}
 use Rattle.hx_parse.specs.EntryReads.{UnturnedFits}
 use Rattle.hx_lex.proofs.Cursors.{rest_same, word_then}
 use Rattle.hx_lex.proofs.Spacing.{line_from_words}
-use Rattle.hx_text.proofs.StepWords.{first_letter, words_in-step_line}
+use Rattle.hx_text.proofs.StepWords.{letters_same, words_in-step_line}
 
 -- ---- steps
 
@@ -39,9 +39,7 @@ AreBaseWords size rest step =
 no_base : (size : Extent) (value : Step) (words rest : List (List ℕ)) → words ≡ codes "base" ∷ rest
     → ((step : Step) → AreBaseWords size rest step → ⊥) → StepFits size value → words ≡ step_words value → ⊥
 no_base size (Base a b) words rest first none fits e = none (Base a b) (a, b, refl, fits.0, fits.1, rest_same first e)
-no_base size value words rest first none fits e =
-    let letters : first_letter (codes "base" ∷ rest) ≡ first_letter (step_words value) = ap first_letter (sym first ∙ e) in
-    absurd (omega (arith, letters))
+no_base size value words rest first none fits e = absurd (omega (arith, letters_same first e))
 
 pub base_reads : (size : Extent) (words rest : List (List ℕ)) (found : Option Step) → words ≡ codes "base" ∷ rest
     → Finds found (AreBaseWords size rest)
@@ -49,43 +47,35 @@ pub base_reads : (size : Extent) (words rest : List (List ℕ)) (found : Option 
 base_reads size words rest (Some step) first is = rw is.2 ((is.3, is.4), word_then first is.5)
 base_reads size words rest None first none = λ value fits e. no_base size value words rest first none fits e
 
--- the words after `stone` are those of this step
-abbrev AreStoneWords : List (List ℕ) → Step → Type 0
-AreStoneWords rest step =
-    (left right : ℕ) × (step ≡ AndStone left right) × IsNumber left × IsNumber right × (rest ≡ decimal left ∷ decimal right ∷ [])
+-- an And over an own vertex, or over an empty cell
+abbrev and_word : Bool → List ℕ
+and_word true = codes "stone"
+and_word false = codes "cell"
 
-no_stone : (size : Extent) (value : Step) (words rest : List (List ℕ)) → words ≡ codes "stone" ∷ rest
-    → ((step : Step) → AreStoneWords rest step → ⊥) → StepFits size value → words ≡ step_words value → ⊥
-no_stone size (AndStone left right) words rest first none fits e =
+abbrev and_of : Bool → ℕ → ℕ → Step
+and_of true left right = AndStone left right
+and_of false left right = AndCell left right
+
+-- the words after the first are those of this And
+abbrev AreAndWords : Bool → List (List ℕ) → Step → Type 0
+AreAndWords own rest step =
+    (left right : ℕ) × (step ≡ and_of own left right) × IsNumber left × IsNumber right × (rest ≡ decimal left ∷ decimal right ∷ [])
+
+no_and : (own : Bool) (size : Extent) (value : Step) (words rest : List (List ℕ)) → words ≡ and_word own ∷ rest
+    → ((step : Step) → AreAndWords own rest step → ⊥) → StepFits size value → words ≡ step_words value → ⊥
+no_and true size (AndStone left right) words rest first none fits e =
     none (AndStone left right) (left, right, refl, fits.0, fits.1, rest_same first e)
-no_stone size value words rest first none fits e =
-    let letters : first_letter (codes "stone" ∷ rest) ≡ first_letter (step_words value) = ap first_letter (sym first ∙ e) in
-    absurd (omega (arith, letters))
-
-pub stone_reads : (size : Extent) (words rest : List (List ℕ)) (found : Option Step) → words ≡ codes "stone" ∷ rest
-    → Finds found (AreStoneWords rest)
-    → Reads step_words (StepFits size) words found
-stone_reads size words rest (Some step) first is = rw is.2 ((is.3, is.4), word_then first is.5)
-stone_reads size words rest None first none = λ value fits e. no_stone size value words rest first none fits e
-
--- the words after `cell` are those of this step
-abbrev AreCellWords : List (List ℕ) → Step → Type 0
-AreCellWords rest step =
-    (left right : ℕ) × (step ≡ AndCell left right) × IsNumber left × IsNumber right × (rest ≡ decimal left ∷ decimal right ∷ [])
-
-no_cell : (size : Extent) (value : Step) (words rest : List (List ℕ)) → words ≡ codes "cell" ∷ rest
-    → ((step : Step) → AreCellWords rest step → ⊥) → StepFits size value → words ≡ step_words value → ⊥
-no_cell size (AndCell left right) words rest first none fits e =
+no_and false size (AndCell left right) words rest first none fits e =
     none (AndCell left right) (left, right, refl, fits.0, fits.1, rest_same first e)
-no_cell size value words rest first none fits e =
-    let letters : first_letter (codes "cell" ∷ rest) ≡ first_letter (step_words value) = ap first_letter (sym first ∙ e) in
-    absurd (omega (arith, letters))
+no_and true size value words rest first none fits e = absurd (omega (arith, letters_same first e))
+no_and false size value words rest first none fits e = absurd (omega (arith, letters_same first e))
 
-pub cell_step_reads : (size : Extent) (words rest : List (List ℕ)) (found : Option Step) → words ≡ codes "cell" ∷ rest
-    → Finds found (AreCellWords rest)
+pub and_reads : (own : Bool) (size : Extent) (words rest : List (List ℕ)) (found : Option Step) → words ≡ and_word own ∷ rest
+    → Finds found (AreAndWords own rest)
     → Reads step_words (StepFits size) words found
-cell_step_reads size words rest (Some step) first is = rw is.2 ((is.3, is.4), word_then first is.5)
-cell_step_reads size words rest None first none = λ value fits e. no_cell size value words rest first none fits e
+and_reads true size words rest (Some step) first is = rw is.2 ((is.3, is.4), word_then first is.5)
+and_reads false size words rest (Some step) first is = rw is.2 ((is.3, is.4), word_then first is.5)
+and_reads own size words rest None first none = λ value fits e. no_and own size value words rest first none fits e
 
 pub or_reads : {E : Type 0} (size : Extent) (words rest : List (List ℕ)) (found : Result (Option Step) E) → words ≡ codes "or" ∷ rest
     → IfOk found (λ read. Finds read (λ step. (parts : List ℕ) × (step ≡ Or parts) × (length parts ≤ MOST_PARTS) × EachItem IsNumber parts
@@ -97,9 +87,7 @@ or_reads size words rest (Ok None) first none = λ value fits e. no_or value fit
   where
     no_or : (value : Step) → StepFits size value → words ≡ step_words value → ⊥
     no_or (Or parts) fits e = none (Or parts) (parts, refl, fits.0, fits.1, rest_same first e)
-    no_or value fits e =
-        let letters : first_letter (codes "or" ∷ rest) ≡ first_letter (step_words value) = ap first_letter (sym first ∙ e) in
-        absurd (omega (arith, letters))
+    no_or value fits e = absurd (omega (arith, letters_same first e))
 
 -- where the parts are read after the first word
 pub or_memory : {T E : Type 0} (words rest : List (List ℕ)) (found : Result T E) → words ≡ codes "or" ∷ rest
@@ -141,9 +129,7 @@ chain_reads preamble words rest None first none = λ value fits e. no_chain valu
   where
     no_chain : (value : Opening) → UnturnedFits preamble value → words ≡ opening_words value → ⊥
     no_chain Chain fits e = none Chain (refl, rest_same first e)
-    no_chain value fits e =
-        let letters : first_letter (codes "chain" ∷ rest) ≡ first_letter (opening_words value) = ap first_letter (sym first ∙ e) in
-        absurd (omega (arith, letters))
+    no_chain value fits e = absurd (omega (arith, letters_same first e))
 
 pub links_reads : (preamble : Preamble) (words rest : List (List ℕ)) (found : Option Opening) → words ≡ codes "links" ∷ rest
     → Finds found (λ opening. (steps : ℕ) × (opening ≡ Links steps) × (steps ≤ MOST_STEPS) × (rest ≡ decimal steps ∷ []))
@@ -153,9 +139,7 @@ links_reads preamble words rest None first none = λ value fits e. no_links valu
   where
     no_links : (value : Opening) → UnturnedFits preamble value → words ≡ opening_words value → ⊥
     no_links (Links steps) fits e = none (Links steps) (steps, refl, fits.0, rest_same first e)
-    no_links value fits e =
-        let letters : first_letter (codes "links" ∷ rest) ≡ first_letter (opening_words value) = ap first_letter (sym first ∙ e) in
-        absurd (omega (arith, letters))
+    no_links value fits e = absurd (omega (arith, letters_same first e))
 
 pub move_reads : (preamble : Preamble) (words rest : List (List ℕ)) (found : Option Opening) → words ≡ codes "move" ∷ rest
     → Finds found (λ opening. (cell child : ℕ) × (opening ≡ Move cell child) × OnBoard preamble.size cell × IsNumber child
@@ -166,9 +150,7 @@ move_reads preamble words rest None first none = λ value fits e. no_move value 
   where
     no_move : (value : Opening) → UnturnedFits preamble value → words ≡ opening_words value → ⊥
     no_move (Move cell child) fits e = none (Move cell child) (cell, child, refl, fits.0.0, fits.0.1, rest_same first e)
-    no_move value fits e =
-        let letters : first_letter (codes "move" ∷ rest) ≡ first_letter (opening_words value) = ap first_letter (sym first ∙ e) in
-        absurd (omega (arith, letters))
+    no_move value fits e = absurd (omega (arith, letters_same first e))
 
 pub all_reads : (preamble : Preamble) (words rest : List (List ℕ)) (found : Option Opening) → words ≡ codes "all" ∷ rest
     → Finds found (λ opening. (steps threats lines : ℕ) × (opening ≡ All steps threats lines) × (steps ≤ MOST_STEPS)
@@ -181,9 +163,7 @@ all_reads preamble words rest None first none = λ value fits e. no_all value fi
     no_all : (value : Opening) → UnturnedFits preamble value → words ≡ opening_words value → ⊥
     no_all (All steps threats lines) fits e =
         none (All steps threats lines) (steps, threats, lines, refl, fits.0.0, fits.0.1, fits.0.2, rest_same first e)
-    no_all value fits e =
-        let letters : first_letter (codes "all" ∷ rest) ≡ first_letter (opening_words value) = ap first_letter (sym first ∙ e) in
-        absurd (omega (arith, letters))
+    no_all value fits e = absurd (omega (arith, letters_same first e))
 
 pub fills_reads : (preamble : Preamble) (words rest : List (List ℕ)) (found : Option Opening) → words ≡ codes "fill" ∷ rest
     → Finds found (λ opening. (fills child : ℕ) × (opening ≡ Fill fills child) × (fills ≤ CELLS) × IsNumber child
@@ -194,9 +174,7 @@ fills_reads preamble words rest None first none = λ value fits e. no_fills valu
   where
     no_fills : (value : Opening) → UnturnedFits preamble value → words ≡ opening_words value → ⊥
     no_fills (Fill fills child) fits e = none (Fill fills child) (fills, child, refl, fits.0.0, fits.0.1, rest_same first e)
-    no_fills value fits e =
-        let letters : first_letter (codes "fill" ∷ rest) ≡ first_letter (opening_words value) = ap first_letter (sym first ∙ e) in
-        absurd (omega (arith, letters))
+    no_fills value fits e = absurd (omega (arith, letters_same first e))
 
 -- the words begin with none of the five
 module _ {words : List (List ℕ)} (no_chain : (rest : List (List ℕ)) → words ≡ codes "chain" ∷ rest → ⊥)
@@ -222,9 +200,7 @@ turned_reads preamble words rest None first none = λ value fits e. no_turned va
   where
     no_turned : (value : Opening) → OpeningFits preamble value → words ≡ opening_words value → ⊥
     no_turned (Turned child) fits e = none (Turned child) (child, refl, fits.0, fits.1, rest_same first e)
-    no_turned value fits e =
-        let letters : first_letter (codes "turned" ∷ rest) ≡ first_letter (opening_words value) = ap first_letter (sym first ∙ e) in
-        absurd (omega (arith, letters))
+    no_turned value fits e = absurd (omega (arith, letters_same first e))
 
 pub unturned_reads : (preamble : Preamble) (words kept : List (List ℕ)) (found : Option Opening)
     → ((rest : List (List ℕ)) → words ≡ codes "turned" ∷ rest → ⊥) → kept ≡ words

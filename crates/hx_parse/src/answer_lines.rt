@@ -31,13 +31,13 @@ pub(crate) fn read_answer(size: Size, line: &[u8]) -> Option<Line>
 fn read_reason(size: Size, cell: Cell, words: &mut Words<'_>) -> Option<Line>
     ensures { Reads reason_words (AnswersAt size cell) words.old result }
 {
-    if words.keyword(b"child").is_some() {
+    if words.takes(b"child") {
         return read_child(cell, words);
     }
-    if words.keyword(b"dead").is_some() {
+    if words.takes(b"dead") {
         return read_dead(size, cell, words);
     }
-    if words.keyword(b"pair").is_some() {
+    if words.takes(b"pair") {
         return read_pair(size, cell, words);
     }
     None

@@ -25,13 +25,13 @@ pub(crate) fn read_fill(size: Size, line: &[u8]) -> Option<FillStep>
 fn read_words(size: Size, words: &mut Words<'_>) -> Option<FillStep>
     ensures { Reads fill_words (FillFits size) words.old result }
 {
-    if words.keyword(b"other").is_some() {
+    if words.takes(b"other") {
         return read_other(size, words);
     }
-    if words.keyword(b"dead").is_some() {
+    if words.takes(b"dead") {
         return read_dead(size, words);
     }
-    if words.keyword(b"pair").is_some() {
+    if words.takes(b"pair") {
         return read_pair(size, words);
     }
     None

@@ -40,7 +40,7 @@ pub(crate) fn read_head(preamble: &Preamble, line: &[u8]) -> Option<Head>
 fn read_opening(preamble: &Preamble, words: &mut Words<'_>) -> Option<Opening>
     ensures { Reads opening_words (OpeningFits preamble.now) words.old result }
 {
-    if words.keyword(b"turned").is_some() {
+    if words.takes(b"turned") {
         return read_turned(preamble.version, words);
     }
     read_unturned(preamble, words)
@@ -50,19 +50,19 @@ fn read_opening(preamble: &Preamble, words: &mut Words<'_>) -> Option<Opening>
 fn read_unturned(preamble: &Preamble, words: &mut Words<'_>) -> Option<Opening>
     ensures { Reads opening_words (UnturnedFits preamble.now) words.old result }
 {
-    if words.keyword(b"chain").is_some() {
+    if words.takes(b"chain") {
         return read_chain(words);
     }
-    if words.keyword(b"links").is_some() {
+    if words.takes(b"links") {
         return read_links(words);
     }
-    if words.keyword(b"move").is_some() {
+    if words.takes(b"move") {
         return read_move(preamble.size, words);
     }
-    if words.keyword(b"all").is_some() {
+    if words.takes(b"all") {
         return read_all(words);
     }
-    if words.keyword(b"fill").is_some() {
+    if words.takes(b"fill") {
         return read_fills(words);
     }
     None

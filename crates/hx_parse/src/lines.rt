@@ -7,7 +7,7 @@ ghost use Rattle.hx_text.specs.PositionTexts.{size_line, stones_line, move_line}
 ghost use Rattle.hx_text.specs.TreeTexts.{title_line, end_line};
 
 use hx_board::{Colour, Mask, Size};
-use hx_lex::{Words, colour_word, size_of};
+use hx_lex::{Words, colour_word, keyed_colour, keyed_mask, size_of};
 use hx_text::Version;
 
 /// What the last line of a tree's text says.
@@ -46,22 +46,14 @@ pub fn read_size(line: &[u8]) -> Option<Size>
 pub(crate) fn read_stones(player: Colour, line: &[u8]) -> Option<Mask>
     ensures { Reads (stones_line player) IsSet line.now result }
 {
-    let mut words = Words::of(line);
-    words.keyword(colour_word(player))?;
-    let stones = words.mask()?;
-    words.end()?;
-    Some(stones)
+    keyed_mask(colour_word(player), line)
 }
 
 /// The line `move COLOUR`.
 pub(crate) fn read_mover(line: &[u8]) -> Option<Colour>
     ensures { Reads move_line (λ _. Unit {0}) line.now result }
 {
-    let mut words = Words::of(line);
-    words.keyword(b"move")?;
-    let to_move = words.colour()?;
-    words.end()?;
-    Some(to_move)
+    keyed_colour(b"move", line)
 }
 
 /// The line `end COUNT WINNER`.

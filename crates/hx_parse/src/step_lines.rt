@@ -33,16 +33,16 @@ fn read_words(alloc: Global, size: Size, words: &mut Words<'_>) -> Result<Option
     ensures memory { OnErr result ((parts : List (List ℕ)) × (words.old ≡ codes "or" ∷ parts)
         × (8 < length parts)) }
 {
-    if words.keyword(b"base").is_some() {
+    if words.takes(b"base") {
         return Ok(read_base(size, words));
     }
-    if words.keyword(b"stone").is_some() {
+    if words.takes(b"stone") {
         return Ok(read_stone(words));
     }
-    if words.keyword(b"cell").is_some() {
+    if words.takes(b"cell") {
         return Ok(read_cell(words));
     }
-    if words.keyword(b"or").is_some() {
+    if words.takes(b"or") {
         return read_or(alloc, words);
     }
     Ok(None)

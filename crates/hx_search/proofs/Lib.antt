@@ -6,3 +6,5 @@ pub mod SwappedAnds
 pub mod ForkLaws
 pub mod OrLaws
 pub mod ClosedLaws
+pub mod PassedLaws
+pub mod Growing

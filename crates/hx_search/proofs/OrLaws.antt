@@ -12,17 +12,20 @@ use Rattle.hx_link.specs.declared.steps.Step.TheVariants.{Or}
 use Rattle.hx_link.specs.Steps.{HasEnds}
 use Rattle.hx_link.proofs.OneLink.{step-unique}
 use Rattle.hx_linkset.specs.States.{Standing, IsRight}
-use Rattle.hx_linkset.specs.Answers.{IsCovered, IsAtLimit}
+use Rattle.hx_linkset.specs.declared.sets.Added.{Added}
+use Rattle.hx_linkset.specs.declared.sets.Added.TheVariants.{New, Covered, Refused, Limit}
+use Rattle.hx_linkset.specs.Answers.{IsAdded, IsCovered, IsAtLimit}
 use Rattle.hx_linkset.specs.LiveOf.{IsLiveOf}
 use Rattle.hx_linkset.proofs.NextLaws.{live-is_link}
 use Rattle.hx_search.specs.Closed.{IsForked, HasFull, IsStuck}
-use Rattle.hx_search.specs.Progress.{IsFork, IsJoinedWhereForked, AreForksOf, AreForksBelow}
+use Rattle.hx_search.specs.Progress.{IsFork, IsPassed, passed_by, IsJoinedWhereForked, AreForksOf, AreForksBelow}
+use Rattle.hx_search.proofs.SettledLaws.{new-longer}
 use Rattle.hx_search.proofs.VertexLaws.{below-more, below-skip, live_of-swapped, live_of-vertex}
 
 -- ---- one Or
 
 module _ (old new : Standing) (a b : Vertex) (parts : List ℕ) (fork : IsFork old a b parts) where
-  pub or-covered : (place : ℕ) → IsCovered old new (Or parts) place → (new ≡ old) × IsJoinedWhereForked new a b
+  or-covered : (place : ℕ) → IsCovered old new (Or parts) place → (new ≡ old) × IsJoinedWhereForked new a b
   or-covered place c =
       let same : c.link ≡ fork.link =
       step-unique old.present.board old.player old.present.links c.link fork.link (Or parts) c.gives.gives fork.gives.gives in
@@ -43,10 +46,17 @@ module _ (old new : Standing) (a b : Vertex) (parts : List ℕ) (fork : IsFork o
       ) in
       (c.same, subst P (sym c.same) (λ forked. full))
 
-  pub or-full : ((place : ℕ) → IsLiveOf old Full a b place → ⊥) → IsAtLimit old new (Or parts) → IsStuck new
+  or-full : ((place : ℕ) → IsLiveOf old Full a b place → ⊥) → IsAtLimit old new (Or parts) → IsStuck new
   or-full none f =
       let P : Standing → Type 0 = λ s. IsStuck s in
       subst P (sym f.same) record { full = f.full; not_closed = λ closed. let w = closed.ors a b fork.forked in none w.0 w.1 }
+
+  pub or-passed : ((place : ℕ) → IsLiveOf old Full a b place → ⊥) → (added : Added) → IsAdded old new (Or parts) added
+      → IsPassed old new (IsJoinedWhereForked new a b) (passed_by added)
+  or-passed none (New place) n = omega (arith, new-longer old new (Or parts) place n)
+  or-passed none (Covered place) c = or-covered place c
+  or-passed none Refused r = (r.same, λ forked. absurd (r.none fork.link fork.gives))
+  or-passed none Limit f = or-full none f
 
 -- ---- of one vertex with others
 

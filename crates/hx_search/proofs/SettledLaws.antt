@@ -16,14 +16,16 @@ use Rattle.hx_link.specs.Steps.{GoesOver, GivesByRule}
 use Rattle.hx_link.specs.Named.{links_at}
 use Rattle.hx_link.proofs.OneLink.{step-unique}
 use Rattle.hx_linkset.specs.States.{Standing, IsLive, Names, GivesFromLive, added}
-use Rattle.hx_linkset.specs.Answers.{Gives, Covers, IsNew, IsPutAt, IsCovered, IsAtLimit}
+use Rattle.hx_linkset.specs.declared.sets.Added.{Added}
+use Rattle.hx_linkset.specs.declared.sets.Added.TheVariants.{New, Covered, Refused, Limit}
+use Rattle.hx_linkset.specs.Answers.{Gives, Covers, IsAdded, IsNew, IsPutAt, IsCovered, IsAtLimit}
 use Rattle.hx_linkset.specs.LiveOf.{IsLiveOf}
 use Rattle.hx_linkset.proofs.GivenLaws.{from_live-live}
 use Rattle.hx_board.proofs.ListLaws.{get-there, get-push_last}
 use Rattle.hx_reach.specs.Growth.{IsGrown}
-use Rattle.hx_reach.proofs.GrowthLaws.{put-grown, put-longer}
+use Rattle.hx_reach.proofs.GrowthLaws.{grown-same, put-grown, put-longer}
 use Rattle.hx_search.specs.Closed.{IsSettled}
-use Rattle.hx_search.specs.Progress.{IsUnsettled}
+use Rattle.hx_search.specs.Progress.{IsUnsettled, IsTriedStep, tried_by}
 
 -- a place that was there holds what it held
 module _ (links more : List Link)
@@ -130,13 +132,13 @@ module _ (old new : Standing) (step : Step) where
   new-put : (place : ℕ) → IsNew old new step place → IsPutAt old new step place
   new-put place n = record { link = n.link; gives = n.gives; place_is = n.place_is; small = n.small; grown = n.grown }
 
-  pub new-grown : (place : ℕ) → IsNew old new step place → IsGrown old new
+  new-grown : (place : ℕ) → IsNew old new step place → IsGrown old new
   new-grown place n = put-grown old new step place (new-put place n)
 
   pub new-longer : (place : ℕ) → IsNew old new step place → length new.present.links ≡ length old.present.links + 1
   new-longer place n = put-longer old new step place (new-put place n)
 
-  pub new-settled : (place : ℕ) → IsNew old new step place → IsSettled new step
+  new-settled : (place : ℕ) → IsNew old new step place → IsSettled new step
   new-settled place n link h =
       let grown : IsGrown old new = new-grown place n in
       let below : (p : ℕ) → Names step p → p < length old.present.links = λ p k.
@@ -153,17 +155,30 @@ module _ (old new : Standing) (step : Step) where
       let Q : Link → Type 0 = λ l. Covers new (length old.present.links) l in
       (length old.present.links, subst Q same (subst P (sym n.grown) covers))
 
-  pub covered-settled : (place : ℕ) → IsCovered old new step place → IsSettled new step
+  covered-settled : (place : ℕ) → IsCovered old new step place → IsSettled new step
   covered-settled place c = let P : Standing → Type 0 = λ s. IsSettled s step in subst P (sym c.same)
       (λ link h. let same : c.link ≡ link =
       step-unique old.present.board old.player old.present.links c.link link step c.gives.gives h.gives in
       let Q : Link → Type 0 = λ l. Covers old place l in (place, subst Q same c.covers))
 
-  pub full-unsettled : IsAtLimit old new step → IsUnsettled new step
+  full-unsettled : IsAtLimit old new step → IsUnsettled new step
   full-unsettled f = let P : Standing → Type 0 = λ s. IsUnsettled s step in subst P (sym f.same) record {
     full = f.full;
     not_settled = λ settled. let w = settled f.link f.gives in f.uncovered w.0 w.1;
   }
+
+  pub added-grown : (added : Added) → IsAdded old new step added → IsGrown old new
+  added-grown (New place) n = new-grown place n
+  added-grown (Covered place) c = grown-same old new c.same
+  added-grown Refused r = grown-same old new r.same
+  added-grown Limit f = grown-same old new f.same
+
+  pub added-tried : (added : Added) → IsAdded old new step added → IsTriedStep new step (tried_by added)
+  added-tried (New place) n = new-settled place n
+  added-tried (Covered place) c = covered-settled place c
+  added-tried Refused r =
+      let P : Standing → Type 0 = λ s. IsSettled s step in subst P (sym r.same) (λ link gives. absurd (r.none link gives))
+  added-tried Limit f = full-unsettled f
 
 -- a live link of a kind and ends stays one
 module _ (old new : Standing) (g : IsGrown old new) (kind : Kind) (a b : Vertex) (place : ℕ) where

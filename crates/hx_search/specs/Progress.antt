@@ -14,9 +14,12 @@ use Rattle.hx_link.specs.Steps.{HasEnds}
 use Rattle.hx_link.specs.declared.steps.Step.{Step}
 use Rattle.hx_link.specs.declared.steps.Step.TheVariants.{Base, AndStone, AndCell, Or}
 use Rattle.hx_linkset.specs.declared.limits.TheConstants.{MOST_LINKS}
+use Rattle.hx_linkset.specs.declared.sets.Added.{Added}
+use Rattle.hx_linkset.specs.declared.sets.Added.TheVariants.{New, Covered, Refused, Limit}
 use Rattle.hx_linkset.specs.States.{Standing}
 use Rattle.hx_linkset.specs.Answers.{Gives}
 use Rattle.hx_linkset.specs.LiveOf.{IsLiveOf}
+use Rattle.hx_reach.specs.Growth.{IsGrown}
 use Rattle.hx_search.specs.declared.tries.Tried.{Tried}
 use Rattle.hx_search.specs.declared.tries.Tried.TheVariants.{Settled, Stopped}
 use Rattle.hx_search.specs.declared.ors.Passed.{Passed}
@@ -35,6 +38,13 @@ abbrev pub IsTriedStep : Standing → Step → Tried → Type 0
 IsTriedStep set step Settled = IsSettled set step
 IsTriedStep set step Stopped = IsUnsettled set step
 
+-- what the answer of a set says of the step that was to be added
+abbrev pub tried_by : Added → Tried
+tried_by (New place) = Settled
+tried_by (Covered place) = Settled
+tried_by Refused = Settled
+tried_by Limit = Stopped
+
 -- what became of several steps, which were tried to bring a fact about
 abbrev pub AreTried : Standing → Type 0 → Tried → Type 0
 AreTried set Fact Settled = Fact
@@ -45,6 +55,19 @@ abbrev pub IsPassed : Standing → Standing → Type 0 → Passed → Type 0
 IsPassed old new Fact Same = (new ≡ old) × Fact
 IsPassed old new Fact More = length old.present.links < length new.present.links
 IsPassed old new Fact AtLimit = IsStuck new
+
+-- what the answer of a set says of the Or that was to be added
+abbrev pub passed_by : Added → Passed
+passed_by (New place) = More
+passed_by (Covered place) = Same
+passed_by Refused = Same
+passed_by Limit = AtLimit
+
+-- as far as Ors were tried: where none was added the fact holds
+pub record PassedSoFar (old new : Standing) (more : Bool) (Fact : Type 0) : Type 0 where
+  pub grown : IsGrown old new
+  pub same : more ≡ false → (new ≡ old) × Fact
+  pub longer : more ≡ true → length old.present.links < length new.present.links
 
 -- ---- bases
 

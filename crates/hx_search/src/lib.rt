@@ -3,7 +3,7 @@
 //! This is Anshelevich's H-search (2002): connections are combined by his And and Or rules until the rules give nothing
 //! new. Of two ends that have a Full link no further Or is looked for, since Ors of all choices of parts would be very
 //! many. Useful links come first (hx_reach), so that a set that gets full holds these.
-#![tactic(auto)]
+#![tactic(auto, using(crate::proofs::Growing::growing))]
 
 mod ands;
 mod bases;

@@ -2,7 +2,7 @@
 
 ghost use Rattle.std.specs.Prelude.{◌≡◌, IfOk};
 ghost use Rattle.hx_reach.specs.Growth.{IsGrown};
-ghost use Rattle.hx_search.specs.Progress.{IsPassed, IsJoinedWhereForked, AreForksOf, AreForksBelow};
+ghost use Rattle.hx_search.specs.Progress.{IsPassed, passed_by, IsJoinedWhereForked, AreForksOf, AreForksBelow};
 
 use crate::parts::parts_of;
 use hx_board::{Memory, VERTICES, Vertex};
@@ -37,11 +37,19 @@ fn join(set: &mut LinkSet, a: &Vertex, b: &Vertex) -> Result<Passed, Memory>
         Err(Memory) => return Err(Memory),
     };
     match set.add(Step::Or { parts }) {
-        Ok(Added::New(_)) => Ok(Passed::More),
-        Ok(Added::Covered(_)) => Ok(Passed::Same),
-        Ok(Added::Refused) => Ok(Passed::Same),
-        Ok(Added::Limit) => Ok(Passed::Full),
+        Ok(added) => Ok(passed_by(added)),
         Err(Memory) => Err(Memory),
+    }
+}
+
+/// What became of the Or that the set answered this.
+fn passed_by(added: Added) -> Passed
+    ensures { result ≡ passed_by added }
+{
+    match added {
+        Added::New(_) => Passed::More,
+        Added::Covered(_) | Added::Refused => Passed::Same,
+        Added::Limit => Passed::Full,
     }
 }
 

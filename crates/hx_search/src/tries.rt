@@ -1,9 +1,9 @@
 //! One step tried. A step whose link is covered, or that gives none, stays so as links are added: no step of links that
 //! are there has to be tried a second time.
 
-ghost use Rattle.std.specs.Prelude.{IfOk};
+ghost use Rattle.std.specs.Prelude.{◌≡◌, IfOk};
 ghost use Rattle.hx_reach.specs.Growth.{IsGrown};
-ghost use Rattle.hx_search.specs.Progress.{IsTriedStep};
+ghost use Rattle.hx_search.specs.Progress.{IsTriedStep, tried_by};
 
 use hx_board::Memory;
 use hx_link::Step;
@@ -25,10 +25,17 @@ pub(crate) fn settle(set: &mut LinkSet, step: Step) -> Result<Tried, Memory>
     ensures tried { IfOk result (IsTriedStep set.new step) }
 {
     match set.add(step) {
-        Ok(Added::New(_)) => Ok(Tried::Settled),
-        Ok(Added::Covered(_)) => Ok(Tried::Settled),
-        Ok(Added::Refused) => Ok(Tried::Settled),
-        Ok(Added::Limit) => Ok(Tried::Stopped),
+        Ok(added) => Ok(tried_by(added)),
         Err(Memory) => Err(Memory),
+    }
+}
+
+/// What became of the step that the set answered this.
+fn tried_by(added: Added) -> Tried
+    ensures { result ≡ tried_by added }
+{
+    match added {
+        Added::New(_) | Added::Covered(_) | Added::Refused => Tried::Settled,
+        Added::Limit => Tried::Stopped,
     }
 }

@@ -17,46 +17,27 @@ use Rattle.hx_text.specs.PositionTexts.{size_line, stones_line}
 use Rattle.hx_template_text.specs.Templates.{owner_line, kind_word, kind_line, ends_line, carrier_line, board_lines}
 use Rattle.hx_template_text.specs.Templates.{template_lines, IsTemplate, AreTemplateLines}
 use Rattle.hx_lex.proofs.Spacing.{IsLine, words_in-spaced, spaced_injective}
-use Rattle.hx_lex.proofs.HighBytes.{AllHigh, is_high, IsHigh-test, IsHigh-hex, IsHigh-colour_word, IsLine-high, Lacks-spaced}
-use Rattle.hx_lex.proofs.Masks.{mask_injective}
+use Rattle.hx_lex.proofs.HighBytes.{AllHigh, IsHigh, is_high, IsHigh-test, IsHigh-hex, IsHigh-colour_word, IsLine-high, Lacks-spaced}
+use Rattle.hx_lex.proofs.KeyedLines.{Lacks-keyed, second_word_same, keyed_colour_injective, keyed_mask_injective}
 use Rattle.hx_text.proofs.LineWords.{size_words, AllHigh-size_words}
 use Rattle.hx_text.proofs.StepWords.{IsHigh-vertex_word}
-use Rattle.hx_text.proofs.PositionLines.{stones_words, AllHigh-stones_words}
+use Rattle.hx_text.proofs.PositionLines.{Lacks-stones_line}
 use Rattle.hx_text.proofs.WholePositions.{lines_tell_board}
-use Rattle.hx_lex.proofs.Injective.{colour_injective, vertex_injective}
+use Rattle.hx_lex.proofs.Injective.{vertex_injective}
 use Rattle.hx_text.proofs.Cuts.{AllLack}
 
 -- ---- the owner
 
-abbrev owner_words : Colour → List (List ℕ)
-owner_words owner = codes "owner" ∷ colour_word owner ∷ []
-
-AllHigh-owner_words : (owner : Colour) → AllHigh (owner_words owner)
-unfolding is_high
-AllHigh-owner_words owner = (IsHigh-test (codes "owner") refl, (IsHigh-colour_word owner, tt))
-
-IsLine-owner_words : (owner : Colour) → IsLine (owner_words owner)
-IsLine-owner_words owner = IsLine-high (codes "owner") (colour_word owner ∷ []) (AllHigh-owner_words owner)
-
-pub words_in-owner_line : (line : List ℕ) (owner : Colour) → line ≡ owner_line owner → words_in line ≡ owner_words owner
-words_in-owner_line line owner e = ap words_in e ∙ words_in-spaced (owner_words owner) (IsLine-owner_words owner)
-
 pub owner_injective : (a b : Colour) → owner_line a ≡ owner_line b → a ≡ b
-owner_injective a b e =
-    let words : owner_words a ≡ owner_words b =
-    spaced_injective (owner_words a) (owner_words b) (IsLine-owner_words a) (IsLine-owner_words b) e in
-    let colours : colour_word a ≡ colour_word b = cc in
-    colour_injective a b colours
+unfolding is_high
+owner_injective a b e = keyed_colour_injective (codes "owner") a b (IsHigh-test (codes "owner") refl) e
 
 -- ---- the kind
 
-abbrev kind_words : Kind → List (List ℕ)
-kind_words kind = codes "kind" ∷ kind_word kind ∷ []
-
-AllHigh-kind_words : (kind : Kind) → AllHigh (kind_words kind)
+IsHigh-kind_word : (kind : Kind) → IsHigh (kind_word kind)
 unfolding is_high
-AllHigh-kind_words Full = (IsHigh-test (codes "kind") refl, (IsHigh-test (codes "full") refl, tt))
-AllHigh-kind_words Semi = (IsHigh-test (codes "kind") refl, (IsHigh-test (codes "semi") refl, tt))
+IsHigh-kind_word Full = IsHigh-test (codes "full") refl
+IsHigh-kind_word Semi = IsHigh-test (codes "semi") refl
 
 kind_word_injective : (a b : Kind) → kind_word a ≡ kind_word b → a ≡ b
 kind_word_injective Full Full e = refl
@@ -65,12 +46,10 @@ kind_word_injective Full Semi e = let first : 102 ≡ 115 = ap (λ (w : List ℕ
 kind_word_injective Semi Full e = let first : 115 ≡ 102 = ap (λ (w : List ℕ). get_or w 0 0) e in absurd (omega (arith, first))
 
 pub kind_injective : (a b : Kind) → kind_line a ≡ kind_line b → a ≡ b
+unfolding is_high
 kind_injective a b e =
-    let words : kind_words a ≡ kind_words b =
-    spaced_injective (kind_words a) (kind_words b) (IsLine-high (codes "kind") (kind_word a ∷ []) (AllHigh-kind_words a))
-    (IsLine-high (codes "kind") (kind_word b ∷ []) (AllHigh-kind_words b)) e in
-    let kinds : kind_word a ≡ kind_word b = cc in
-    kind_word_injective a b kinds
+    kind_word_injective a b
+    (second_word_same (codes "kind") (kind_word a) (kind_word b) (IsHigh-test (codes "kind") refl) (IsHigh-kind_word a) (IsHigh-kind_word b) e)
 
 -- ---- the ends
 
@@ -101,25 +80,9 @@ ends_injective size extent a b x y on_a on_b on_x on_y e =
 
 -- ---- the carrier
 
-abbrev carrier_words : ℕ → List (List ℕ)
-carrier_words carrier = codes "carrier" ∷ mask_word carrier ∷ []
-
-AllHigh-carrier_words : (carrier : ℕ) → AllHigh (carrier_words carrier)
-unfolding is_high
-AllHigh-carrier_words carrier = (IsHigh-test (codes "carrier") refl, (IsHigh-hex 32 carrier, tt))
-
-IsLine-carrier_words : (carrier : ℕ) → IsLine (carrier_words carrier)
-IsLine-carrier_words carrier = IsLine-high (codes "carrier") (mask_word carrier ∷ []) (AllHigh-carrier_words carrier)
-
-pub words_in-carrier_line : (line : List ℕ) (carrier : ℕ) → line ≡ carrier_line carrier → words_in line ≡ carrier_words carrier
-words_in-carrier_line line carrier e = ap words_in e ∙ words_in-spaced (carrier_words carrier) (IsLine-carrier_words carrier)
-
 pub carrier_injective : (a b : ℕ) → IsSet a → IsSet b → carrier_line a ≡ carrier_line b → a ≡ b
-carrier_injective a b small few e =
-    let words : carrier_words a ≡ carrier_words b =
-    spaced_injective (carrier_words a) (carrier_words b) (IsLine-carrier_words a) (IsLine-carrier_words b) e in
-    let masks : mask_word a ≡ mask_word b = cc in
-    mask_injective a b small few masks
+unfolding is_high
+carrier_injective a b small few e = keyed_mask_injective (codes "carrier") a b (IsHigh-test (codes "carrier") refl) small few e
 
 -- ---- the lines of the board
 
@@ -132,33 +95,27 @@ board_injective a b is_a is_b e =
 
 -- ---- no line has an LF in it
 
-abbrev title_words : List (List ℕ)
-title_words = codes "hextemplate" ∷ codes "1" ∷ []
-
-AllHigh-title_words : AllHigh title_words
-unfolding is_high
-AllHigh-title_words = (IsHigh-test (codes "hextemplate") refl, (IsHigh-test (codes "1") refl, tt))
-
 pub AllLack-template_lines : (claim : Template) → IsTemplate claim → AllLack (template_lines claim)
+unfolding is_high
 AllLack-template_lines claim is =
     let size = claim.position.size in (
-      Lacks-spaced title_words AllHigh-title_words,
+      Lacks-keyed (codes "hextemplate") (codes "1") (IsHigh-test (codes "hextemplate") refl) (IsHigh-test (codes "1") refl),
       (
         Lacks-spaced (size_words size.rows size.cols)
             (AllHigh-size_words size.rows size.cols (omega (arith, is.board.0)) (omega (arith, is.board.0))),
         (
-          Lacks-spaced (stones_words Black claim.position.black) (AllHigh-stones_words Black claim.position.black),
+          Lacks-stones_line Black claim.position.black,
           (
-            Lacks-spaced (stones_words White claim.position.white) (AllHigh-stones_words White claim.position.white),
+            Lacks-stones_line White claim.position.white,
             (
-              Lacks-spaced (owner_words claim.owner) (AllHigh-owner_words claim.owner),
+              Lacks-keyed (codes "owner") (colour_word claim.owner) (IsHigh-test (codes "owner") refl) (IsHigh-colour_word claim.owner),
               (
-                Lacks-spaced (kind_words claim.kind) (AllHigh-kind_words claim.kind),
+                Lacks-keyed (codes "kind") (kind_word claim.kind) (IsHigh-test (codes "kind") refl) (IsHigh-kind_word claim.kind),
                 (
                   Lacks-spaced (ends_words claim.a claim.b)
                       (AllHigh-ends_words size is.board.0 claim.a claim.b (end-vertex claim.position claim.owner claim.a is.ends.a_end)
                       (end-vertex claim.position claim.owner claim.b is.ends.b_end)),
-                  (Lacks-spaced (carrier_words claim.carrier) (AllHigh-carrier_words claim.carrier), tt),
+                  (Lacks-keyed (codes "carrier") (mask_word claim.carrier) (IsHigh-test (codes "carrier") refl) (IsHigh-hex 32 claim.carrier), tt),
                 ),
               ),
             ),

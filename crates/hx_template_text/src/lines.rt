@@ -7,7 +7,7 @@ ghost use Rattle.hx_lex.specs.Words.{Reads, IsSet};
 ghost use Rattle.hx_template_text.specs.Templates.{owner_line, kind_line, ends_line, carrier_line};
 
 use hx_board::{Colour, Mask, Size, Vertex};
-use hx_lex::Words;
+use hx_lex::{Words, keyed_colour, keyed_mask};
 use hx_link::Kind;
 
 /// The two ends that a line names, in its order.
@@ -21,11 +21,7 @@ pub(crate) struct Ends {
 pub(crate) fn read_owner(line: &[u8]) -> Option<Colour>
     ensures { Reads owner_line (λ _. Unit {0}) line.now result }
 {
-    let mut words = Words::of(line);
-    words.keyword(b"owner")?;
-    let owner = words.colour()?;
-    words.end()?;
-    Some(owner)
+    keyed_colour(b"owner", line)
 }
 
 /// The line `kind full` or `kind semi`.
@@ -58,9 +54,5 @@ pub(crate) fn read_ends(size: Size, line: &[u8]) -> Option<Ends>
 pub(crate) fn read_carrier(line: &[u8]) -> Option<Mask>
     ensures { Reads carrier_line IsSet line.now result }
 {
-    let mut words = Words::of(line);
-    words.keyword(b"carrier")?;
-    let carrier = words.mask()?;
-    words.end()?;
-    Some(carrier)
+    keyed_mask(b"carrier", line)
 }

@@ -12,6 +12,7 @@ use Rattle.hx_text.specs.declared.versions.Version.TheVariants.{One, Two}
 use Rattle.hx_text.specs.Versions.{version_word}
 use Rattle.hx_text.specs.TreeTexts.{title_line, end_line}
 use Rattle.hx_lex.proofs.Spacing.{IsLine, words_in-spaced, spaced_injective}
+use Rattle.hx_lex.proofs.KeyedLines.{second_word_same}
 use Rattle.hx_lex.proofs.HighBytes.{AllHigh, is_high, IsHigh-test, IsHigh-decimal, IsHigh-colour_word, IsLine-high}
 
 abbrev first_byte : List ℕ → ℕ
@@ -29,14 +30,10 @@ AllHigh-title_words Two = (IsHigh-test (codes "hextree") refl, (IsHigh-test (cod
 -- a title tells its version
 pub title_injective : (a b : Version) → title_line a ≡ title_line b → a ≡ b
 title_injective a b e =
-    let words : title_words a ≡ title_words b =
-    spaced_injective (title_words a) (title_words b) (IsLine-high (codes "hextree") (version_word a ∷ []) (AllHigh-title_words a))
-    (IsLine-high (codes "hextree") (version_word b ∷ []) (AllHigh-title_words b)) e in
-    same_version a b (rest_word (codes "hextree") (version_word a) (version_word b) words)
+    same_version a b
+    (second_word_same (codes "hextree") (version_word a) (version_word b) (AllHigh-title_words a).0 (AllHigh-title_words a).1.0
+    (AllHigh-title_words b).1.0 e)
   where
-    rest_word : (first x y : List ℕ) → first ∷ x ∷ [] ≡ first ∷ y ∷ [] → x ≡ y
-    rest_word first x y same = cc
-
     same_version : (a b : Version) → version_word a ≡ version_word b → a ≡ b
     same_version One One same = refl
     same_version Two Two same = refl

@@ -149,11 +149,10 @@ pub child_spelled : (old : List ℕ) (cell child : ℕ)
 unfolding spaced
 child_spelled old cell child = simp append_assoc
 
-pub under_dead_spelled : (old : List ℕ) (cell better : ℕ)
-    → ((((old ++ codes "line ") ++ cell_word cell) ++ codes " dead ") ++ cell_word better) ++ codes "\n"
-    ≡ old ++ (answer_line (Under cell better ByDead) ++ 10 ∷ [])
+pub under_dead_spelled : (cell better : ℕ)
+    → codes "line " ++ cell_word cell ++ codes " dead " ++ cell_word better ++ 10 ∷ [] ≡ answer_line (Under cell better ByDead) ++ 10 ∷ []
 unfolding spaced
-under_dead_spelled old cell better = simp append_assoc
+under_dead_spelled cell better = simp append_assoc
 
 -- the parts that a line is put in are those of the line, whatever they are
 line_in_parts : (old a b c d e f g : List ℕ)
@@ -181,10 +180,15 @@ pub dead_spelled : (cell : ℕ) → codes "dead " ++ cell_word cell ++ 10 ∷ []
 unfolding spaced
 dead_spelled cell = simp append_assoc
 
-pub pair_spelled : (old : List ℕ) (a b : ℕ)
-    → ((((old ++ codes "pair ") ++ cell_word a) ++ codes " ") ++ cell_word b) ++ codes "\n" ≡ old ++ (fill_line (Pair a b) ++ 10 ∷ [])
+-- a line with two cells, whose other words go with the spaces before and after the cells
+pub two_cells_spelled : (old before between : List ℕ) (a b : ℕ)
+    → ((((old ++ before) ++ cell_word a) ++ between) ++ cell_word b) ++ codes "\n" ≡ old
+    ++ (before ++ cell_word a ++ between ++ cell_word b ++ 10 ∷ [])
+two_cells_spelled old before between a b = simp append_assoc
+
+pub pair_spelled : (a b : ℕ) → codes "pair " ++ cell_word a ++ codes " " ++ cell_word b ++ 10 ∷ [] ≡ fill_line (Pair a b) ++ 10 ∷ []
 unfolding spaced
-pair_spelled old a b = simp append_assoc
+pair_spelled a b = simp append_assoc
 
 pub end_spelled : (old : List ℕ) (count : ℕ) (winner : Colour)
     → ((((old ++ codes "end ") ++ decimal count) ++ codes " ") ++ colour_word winner) ++ codes "\n" ≡ old

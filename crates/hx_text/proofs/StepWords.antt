@@ -1,6 +1,6 @@
 -- The lines of steps and of threats. Their words are of high bytes, so each line gives back the words that it was
 -- spelled from.
-use Rattle.std.proofs.Common.{◌≡◌, ℕ, ◌≤◌, List, [], ◌∷◌, map, get_or, refl, ap, ◌∙◌, arith}
+use Rattle.std.proofs.Common.{◌≡◌, ℕ, ◌≤◌, List, [], ◌∷◌, map, get_or, refl, sym, ap, ◌∙◌, arith}
 use Rattle.std.specs.Prelude.{codes, All}
 use Rattle.std.proofs.lemmas.List.Elements.{All-head, All-tail}
 use Rattle.std.specs.Fmt.{decimal}
@@ -20,6 +20,9 @@ use Rattle.hx_lex.proofs.HighBytes.{IsHigh, AllHigh, is_high, IsHigh-test, IsHig
 -- the first letter of a line's words, which tells the four steps apart
 abbrev pub first_letter : List (List ℕ) → ℕ
 first_letter words = get_or (get_or words 0 []) 0 0
+
+pub letters_same : {words a b : List (List ℕ)} → words ≡ a → words ≡ b → first_letter a ≡ first_letter b
+letters_same {words} {a} {b} e f = ap first_letter (sym e ∙ f)
 
 pub IsHigh-vertex_word : (size : Extent) (vertex : Vertex) → size.rows ≤ 11 → IsVertex size vertex → IsHigh (vertex_word vertex)
 unfolding is_high

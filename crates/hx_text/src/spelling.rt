@@ -209,11 +209,7 @@ fn put_under_dead(text: &mut Text, cell: Cell, better: Cell)
     requires { length text.old + 18 ≤ TEXT_ROOM }
     ensures { text.new ≡ text.old ++ (answer_line (Under cell better ByDead) ++ 10 ∷ []) }
 {
-    text.put(b"line ");
-    text.put_cell(cell);
-    text.put(b" dead ");
-    text.put_cell(better);
-    text.put(b"\n");
+    put_two_cells(text, b"line ", cell, b" dead ", better);
 }
 
 /// Puts the line of an answer by a better cell, with which the cell is one of a pair with its partner.
@@ -259,9 +255,18 @@ fn put_pair(text: &mut Text, a: Cell, b: Cell)
     requires { length text.old + 13 ≤ TEXT_ROOM }
     ensures { text.new ≡ text.old ++ (fill_line (Pair a b) ++ 10 ∷ []) }
 {
-    text.put(b"pair ");
+    put_two_cells(text, b"pair ", a, b" ", b);
+}
+
+/// Puts a line with these two cells, each behind these words with their spaces.
+fn put_two_cells(text: &mut Text, before: &[u8], a: Cell, between: &[u8], b: Cell)
+    requires { length text.old + length before.now + length between.now + 7 ≤ TEXT_ROOM }
+    ensures { text.new ≡ text.old
+        ++ (before.now ++ cell_word a ++ between.now ++ cell_word b ++ 10 ∷ []) }
+{
+    text.put(before);
     text.put_cell(a);
-    text.put(b" ");
+    text.put(between);
     text.put_cell(b);
     text.put(b"\n");
 }

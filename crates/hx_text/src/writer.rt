@@ -1,7 +1,7 @@
 //! The writer of texts to a sink. What is spelled waits in a text of fixed size, and goes out when the next piece might
 //! not fit in it. So it takes no memory, and few calls of the sink.
 
-ghost use Rattle.std.specs.Prelude.{◌+◌, ◌≤◌, ◌++◌, ◌∷◌, [], map, length, OnOk};
+ghost use Rattle.std.specs.Prelude.{ℕ, List, ◌+◌, ◌≤◌, ◌++◌, ◌∷◌, [], map, length, OnOk};
 ghost use Rattle.hx_link.specs.declared.steps.Step.TheVariants.{Or as Or_of};
 ghost use Rattle.hx_io.specs.Sinks.{WritesAll};
 ghost use Rattle.hx_text.specs.Grammars.{text_of};
@@ -87,13 +87,13 @@ fn write_rule<K: Sink>(sink: &mut K, text: &mut Text, rule: &Rule) -> Result<(),
 {
     match rule {
         Rule::Chain | Rule::Move { .. } | Rule::Turned { .. } => Ok(()),
-        Rule::Links { steps } => write_steps(sink, text, steps.items()),
+        Rule::Links { steps } => write_each(sink, text, steps.items()),
         Rule::All {
             steps,
             threats,
             lines,
         } => write_entries(sink, text, steps.items(), threats.items(), lines.items()),
-        Rule::Fill { steps, .. } => write_fills(sink, text, steps.items()),
+        Rule::Fill { steps, .. } => write_each(sink, text, steps.items()),
     }
 }
 
@@ -108,33 +108,47 @@ fn write_entries<K: Sink>(
     ensures { Spells (K.writing sink.old) (K.writing sink.new) text.old text.new result
         (text_of (map entry_line (entries_for steps.now threats.now lines.now []))) }
 {
-    write_steps(sink, text, steps)?;
+    write_each(sink, text, steps)?;
     write_threats(sink, text, threats)?;
-    write_answers(sink, text, lines)
+    write_each(sink, text, lines)
 }
 
-/// Spells the line of each step.
-fn write_steps<K: Sink>(sink: &mut K, text: &mut Text, steps: &[Step]) -> Result<(), Failed>
+/// What has a line of its own in the text of a tree.
+trait Lined {
+    /// Its line.
+    ghost line: { Self → List ℕ };
+
+    /// Spells its line.
+    fn write<K: Sink>(&self, sink: &mut K, text: &mut Text) -> Result<(), Failed>
+        ensures { Spells (K.writing sink.old) (K.writing sink.new) text.old text.new result
+            (line self.now ++ 10 ∷ []) };
+}
+
+/// Spells the line of each of these.
+fn write_each<K: Sink, T: Lined>(sink: &mut K, text: &mut Text, items: &[T]) -> Result<(), Failed>
     ensures { Spells (K.writing sink.old) (K.writing sink.new) text.old text.new result
-        (each_line step_line steps.now) }
+        (each_line T.line items.now) }
 {
-    for step in steps {
-        write_step(sink, text, step)?;
+    for item in items {
+        item.write(sink, text)?;
     }
     Ok(())
 }
 
-/// Spells the line of a step.
-fn write_step<K: Sink>(sink: &mut K, text: &mut Text, step: &Step) -> Result<(), Failed>
-    ensures { Spells (K.writing sink.old) (K.writing sink.new) text.old text.new result
-        (step_line step.now ++ 10 ∷ []) }
-{
-    match step {
-        Step::Or { parts } => write_or(sink, text, parts.items()),
-        _ => {
-            make_room(sink, text, STEP_BYTES)?;
-            put_step(text, step);
-            Ok(())
+impl Lined for Step {
+    ghost line = { step_line };
+
+    fn write<K: Sink>(&self, sink: &mut K, text: &mut Text) -> Result<(), Failed>
+        ensures { Spells (K.writing sink.old) (K.writing sink.new) text.old text.new result
+            (step_line self.now ++ 10 ∷ []) }
+    {
+        match self {
+            Step::Or { parts } => write_or(sink, text, parts.items()),
+            _ => {
+                make_room(sink, text, STEP_BYTES)?;
+                put_step(text, self);
+                Ok(())
+            }
         }
     }
 }
@@ -191,46 +205,30 @@ fn write_threat<K: Sink>(sink: &mut K, text: &mut Text, place: u32) -> Result<()
     Ok(())
 }
 
-/// Spells the line of each answer.
-fn write_answers<K: Sink>(sink: &mut K, text: &mut Text, lines: &[Line]) -> Result<(), Failed>
-    ensures { Spells (K.writing sink.old) (K.writing sink.new) text.old text.new result
-        (each_line answer_line lines.now) }
-{
-    for line in lines {
-        write_answer(sink, text, line)?;
+impl Lined for Line {
+    ghost line = { answer_line };
+
+    fn write<K: Sink>(&self, sink: &mut K, text: &mut Text) -> Result<(), Failed>
+        ensures { Spells (K.writing sink.old) (K.writing sink.new) text.old text.new result
+            (answer_line self.now ++ 10 ∷ []) }
+    {
+        make_room(sink, text, ANSWER_BYTES)?;
+        put_answer(text, self);
+        Ok(())
     }
-    Ok(())
 }
 
-/// Spells the line of an answer.
-fn write_answer<K: Sink>(sink: &mut K, text: &mut Text, line: &Line) -> Result<(), Failed>
-    ensures { Spells (K.writing sink.old) (K.writing sink.new) text.old text.new result
-        (answer_line line.now ++ 10 ∷ []) }
-{
-    make_room(sink, text, ANSWER_BYTES)?;
-    put_answer(text, line);
-    Ok(())
-}
+impl Lined for FillStep {
+    ghost line = { fill_line };
 
-/// Spells the line of each fill step.
-fn write_fills<K: Sink>(sink: &mut K, text: &mut Text, fills: &[FillStep]) -> Result<(), Failed>
-    ensures { Spells (K.writing sink.old) (K.writing sink.new) text.old text.new result
-        (each_line fill_line fills.now) }
-{
-    for fill in fills {
-        write_fill(sink, text, fill)?;
+    fn write<K: Sink>(&self, sink: &mut K, text: &mut Text) -> Result<(), Failed>
+        ensures { Spells (K.writing sink.old) (K.writing sink.new) text.old text.new result
+            (fill_line self.now ++ 10 ∷ []) }
+    {
+        make_room(sink, text, FILL_BYTES)?;
+        put_fill(text, self);
+        Ok(())
     }
-    Ok(())
-}
-
-/// Spells the line of a fill step.
-fn write_fill<K: Sink>(sink: &mut K, text: &mut Text, fill: &FillStep) -> Result<(), Failed>
-    ensures { Spells (K.writing sink.old) (K.writing sink.new) text.old text.new result
-        (fill_line fill.now ++ 10 ∷ []) }
-{
-    make_room(sink, text, FILL_BYTES)?;
-    put_fill(text, fill);
-    Ok(())
 }
 
 /// Spells these bytes.

@@ -1,34 +1,30 @@
 -- The words begin with one of the three words of a fill step, or with none.
-use Rattle.std.proofs.Common.{sym, ◌∙◌}
-use Rattle.hx_lex.proofs.Cursors.{word_missing, word_taken, words_kept}
-use Rattle.hx_parse.proofs.FillReads.{other_reads, dead_reads, pair_reads, no_fill_step}
+use Rattle.std.proofs.Common.{sym, ◌∙◌, true, false}
+use Rattle.hx_parse.proofs.FillReads.{one_reads, pair_reads, no_fill_step}
 use Rattle.hx_parse.proofs.fill_lines.read_words.Goals as goal
 
-pub returns-then-is_some : goal.returns-then-is_some
-returns-then-is_some c =
-    other_reads c.args.size _ _ _ (word_taken _ c.keyword.ensures.takes (sym c.if-is_some.true ∙ c.is_some.ensures)) c.read_other.ensures
+pub returns-then-takes : goal.returns-then-takes
+returns-then-takes c =
+    one_reads false c.args.size _ _ _ (c.takes.ensures.taken c.if-takes.true) c.read_other.ensures
 
-pub returns-then-is_some-2 : goal.returns-then-is_some-2
-returns-then-is_some-2 c =
-    let after_other = words_kept _ c.keyword.ensures.same (sym c.if-is_some.false ∙ c.is_some.ensures) in
-    dead_reads c.args.size _ _ _
-    (sym after_other ∙ word_taken _ c.keyword-2.ensures.takes (sym c.if-is_some-2.true ∙ c.is_some-2.ensures)) c.read_dead.ensures
+pub returns-then-takes-2 : goal.returns-then-takes-2
+returns-then-takes-2 c =
+    let after_other = c.takes.ensures.same c.if-takes.false in
+    one_reads true c.args.size _ _ _
+    (sym after_other ∙ c.takes-2.ensures.taken c.if-takes-2.true) c.read_dead.ensures
 
-pub returns-then-is_some-3 : goal.returns-then-is_some-3
-returns-then-is_some-3 c =
-    let after_other = words_kept _ c.keyword.ensures.same (sym c.if-is_some.false ∙ c.is_some.ensures) in
-    let after_dead = words_kept _ c.keyword-2.ensures.same (sym c.if-is_some-2.false ∙ c.is_some-2.ensures) in
+pub returns-then-takes-3 : goal.returns-then-takes-3
+returns-then-takes-3 c =
+    let after_other = c.takes.ensures.same c.if-takes.false in
+    let after_dead = c.takes-2.ensures.same c.if-takes-2.false in
     pair_reads c.args.size _ _ _
     (sym after_other ∙ sym after_dead
-    ∙ word_taken _ c.keyword-3.ensures.takes (sym c.if-is_some-3.true ∙ c.is_some-3.ensures)) c.read_pair.ensures
+    ∙ c.takes-3.ensures.taken c.if-takes-3.true) c.read_pair.ensures
 
 pub returns : goal.returns
 returns c = λ value fits e.
-    let no_other = sym c.if-is_some.false ∙ c.is_some.ensures in
-    let no_dead = sym c.if-is_some-2.false ∙ c.is_some-2.ensures in
-    let no_pair = sym c.if-is_some-3.false ∙ c.is_some-3.ensures in
-    let after_other = words_kept _ c.keyword.ensures.same no_other in
-    let after_dead = words_kept _ c.keyword-2.ensures.same no_dead in
-    no_fill_step (word_missing _ _ c.keyword.ensures.takes no_other)
-    (λ rest f. word_missing _ _ c.keyword-2.ensures.takes no_dead rest (after_other ∙ f))
-    (λ rest f. word_missing _ _ c.keyword-3.ensures.takes no_pair rest (after_dead ∙ after_other ∙ f)) value e
+    let after_other = c.takes.ensures.same c.if-takes.false in
+    let after_dead = c.takes-2.ensures.same c.if-takes-2.false in
+    no_fill_step (c.takes.ensures.missing c.if-takes.false)
+    (λ rest f. c.takes-2.ensures.missing c.if-takes-2.false rest (after_other ∙ f))
+    (λ rest f. c.takes-3.ensures.missing c.if-takes-3.false rest (after_dead ∙ after_other ∙ f)) value e

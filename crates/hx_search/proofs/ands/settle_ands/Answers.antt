@@ -21,14 +21,5 @@ loop-right-preserved c =
 pub loop-right-init : goal.loop-right-init
 loop-right-init c = record { grown = grown-itself c.args.set.now; settled = c.requires }
 
-pub returns-in-Ok-Stopped-clause-grown : goal.returns-in-Ok-Stopped-clause-grown
-returns-in-Ok-Stopped-clause-grown c = grown-on _ _ _ c.loop-right.invariant.grown c.settle_row.ensures.grown
-
 pub returns-in-Ok-Stopped-clause-tried : goal.returns-in-Ok-Stopped-clause-tried
 returns-in-Ok-Stopped-clause-tried c = rw c.in-Ok-Stopped.field-0-is at c.in-Ok-Stopped.ensures.tried
-
-pub returns-in-Err-clause-grown : goal.returns-in-Err-clause-grown
-returns-in-Err-clause-grown c = grown-on _ _ _ c.loop-right.invariant.grown c.settle_row.ensures.grown
-
-pub returns-then-count-right-clause-grown : goal.returns-then-count-right-clause-grown
-returns-then-count-right-clause-grown c = c.loop-right.invariant.grown

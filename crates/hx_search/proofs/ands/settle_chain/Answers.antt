@@ -55,15 +55,3 @@ loop-next-preserved c =
           inside c.in-Some.left c.if-right-left.false here tried
           c.next_of-next.result (c.next_of-next.ensures Full c.args.end.now c.args.to.now live);
     }
-
-pub returns-in-Ok-Stopped-clause-grown : goal.returns-in-Ok-Stopped-clause-grown
-returns-in-Ok-Stopped-clause-grown c = grown-on _ _ _ c.loop-next.invariant.grown c.settle.ensures.grown
-
-pub returns-in-Err-clause-grown : goal.returns-in-Err-clause-grown
-returns-in-Err-clause-grown c = grown-on _ _ _ c.loop-next.invariant.grown c.settle.ensures.grown
-
-pub returns-in_default-clause-grown : goal.returns-in_default-clause-grown
-returns-in_default-clause-grown c = c.loop-next.invariant.grown
-
-pub returns-then-right-left-clause-grown : goal.returns-then-right-left-clause-grown
-returns-then-right-left-clause-grown c = c.loop-next.invariant.grown

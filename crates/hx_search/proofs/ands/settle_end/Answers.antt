@@ -49,14 +49,5 @@ returns-clause-tried c =
 pub loop-code-init : goal.loop-code-init
 loop-code-init c = record { grown = grown-itself c.args.set.now; settled = λ to is less. absurd (omega (arith, less)) }
 
-pub returns-in-Ok-Stopped-clause-grown : goal.returns-in-Ok-Stopped-clause-grown
-returns-in-Ok-Stopped-clause-grown c = grown-on _ _ _ c.loop-code.invariant.grown c.settle_chain.ensures.grown
-
 pub returns-in-Ok-Stopped-clause-tried : goal.returns-in-Ok-Stopped-clause-tried
 returns-in-Ok-Stopped-clause-tried c = rw c.in-Ok-Stopped.field-0-is at c.in-Ok-Stopped.ensures.tried
-
-pub returns-in-Err-clause-grown : goal.returns-in-Err-clause-grown
-returns-in-Err-clause-grown c = grown-on _ _ _ c.loop-code.invariant.grown c.settle_chain.ensures.grown
-
-pub returns-clause-grown : goal.returns-clause-grown
-returns-clause-grown c = c.loop-code.invariant.grown

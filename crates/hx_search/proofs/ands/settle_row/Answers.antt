@@ -1,5 +1,4 @@
 use Rattle.std.proofs.Common.{◌<◌, true, length, arith}
-use Rattle.hx_reach.proofs.GrowthLaws.{grown-itself, grown-on}
 use Rattle.hx_search.proofs.AndLaws.{end-on, row-dead, row-full}
 use Rattle.hx_search.proofs.ands.settle_row.Goals as goal
 
@@ -16,32 +15,11 @@ returns-in-Ok-Settled-settle_end-clause-tried c = λ left less.
     (rw c.in-Ok-Settled-settle_end.field-0-is at c.in-Ok-Settled-settle_end.ensures.tried)
     left less
 
-pub returns-in_default-clause-grown : goal.returns-in_default-clause-grown
-returns-in_default-clause-grown c = grown-itself c.args.set.now
-
-pub returns-then-ne-clause-grown : goal.returns-then-ne-clause-grown
-returns-then-ne-clause-grown c = grown-itself c.args.set.now
-
-pub returns-in-Ok-Stopped-clause-grown : goal.returns-in-Ok-Stopped-clause-grown
-returns-in-Ok-Stopped-clause-grown c = c.settle_end.ensures.grown
-
 pub returns-in-Ok-Stopped-clause-tried : goal.returns-in-Ok-Stopped-clause-tried
 returns-in-Ok-Stopped-clause-tried c = rw c.in-Ok-Stopped.field-0-is at c.in-Ok-Stopped.ensures.tried
 
-pub returns-in-Err-clause-grown : goal.returns-in-Err-clause-grown
-returns-in-Err-clause-grown c = c.settle_end.ensures.grown
-
 pub settle_end-requires-2 : goal.settle_end-requires-2
 settle_end-requires-2 c = omega (arith, c.requires, c.settle_end.ensures.grown.longer)
-
-pub returns-in-Ok-Settled-settle_end-clause-grown : goal.returns-in-Ok-Settled-settle_end-clause-grown
-returns-in-Ok-Settled-settle_end-clause-grown c = grown-on _ _ _ c.settle_end.ensures.grown c.settle_end-2.ensures.grown
-
-pub returns-in-Ok-Stopped-settle_end-clause-grown : goal.returns-in-Ok-Stopped-settle_end-clause-grown
-returns-in-Ok-Stopped-settle_end-clause-grown c = grown-on _ _ _ c.settle_end.ensures.grown c.settle_end-2.ensures.grown
-
-pub returns-in-Err-settle_end-clause-grown : goal.returns-in-Err-settle_end-clause-grown
-returns-in-Err-settle_end-clause-grown c = grown-on _ _ _ c.settle_end.ensures.grown c.settle_end-2.ensures.grown
 
 pub returns-in-Ok-Stopped-settle_end-clause-tried : goal.returns-in-Ok-Stopped-settle_end-clause-tried
 returns-in-Ok-Stopped-settle_end-clause-tried c = rw c.in-Ok-Stopped-settle_end.field-0-is at c.in-Ok-Stopped-settle_end.ensures.tried

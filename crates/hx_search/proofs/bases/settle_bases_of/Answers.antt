@@ -37,12 +37,3 @@ returns-clause-tried c = λ b is less le. c.loop-code.invariant.settled b is (om
 
 pub loop-code-init : goal.loop-code-init
 loop-code-init c = record { grown = grown-itself c.args.set.now; settled = λ b is less le. absurd (omega (arith, less, le)) }
-
-pub returns-in-Ok-Stopped-clause-grown : goal.returns-in-Ok-Stopped-clause-grown
-returns-in-Ok-Stopped-clause-grown c = grown-on _ _ _ c.loop-code.invariant.grown c.settle.ensures.grown
-
-pub returns-in-Err-clause-grown : goal.returns-in-Err-clause-grown
-returns-in-Err-clause-grown c = grown-on _ _ _ c.loop-code.invariant.grown c.settle.ensures.grown
-
-pub returns-clause-grown : goal.returns-clause-grown
-returns-clause-grown c = c.loop-code.invariant.grown

@@ -1,12 +1,5 @@
-use Rattle.std.proofs.Common.{◌≡◌, ◌<◌, true, false, length}
-use Rattle.hx_reach.specs.Growth.{IsGrown}
-use Rattle.hx_search.specs.Progress.{AreForksBelow}
+use Rattle.hx_search.specs.Progress.{PassedSoFar, AreForksBelow}
 use Rattle.hx_search.proofs.ors.join_all.Given as goal
 
 abbrev pub invariant-loop-code : goal.invariant-loop-code
-invariant-loop-code l = record {
-  grown : IsGrown l.initial.set l.set;
-  same : l.more ≡ false → l.set ≡ l.initial.set;
-  settled : l.more ≡ false → AreForksBelow l.set l.code;
-  longer : l.more ≡ true → length l.initial.set.present.links < length l.set.present.links;
-}
+invariant-loop-code l = PassedSoFar l.initial.set l.set l.more (AreForksBelow l.set l.code)

@@ -6,13 +6,13 @@ use Rattle.hx_text.proofs.Pieces.{first_cut_short, second_cut_short, three_spell
 use Rattle.hx_text.proofs.Spelled.{entries_spelled}
 use Rattle.hx_text.proofs.writer.write_entries.Goals as goal
 
-pub returns-in_err-write_steps : goal.returns-in_err-write_steps
-returns-in_err-write_steps g c = record {
+pub returns-in_err-write_each : goal.returns-in_err-write_each
+returns-in_err-write_each g c = record {
   bytes =
       rw entries_spelled
       (first_cut_short _ _ _ _ _ (each_line threat_line c.args.threats.now)
       (each_line answer_line c.args.lines.now) _ c.from_residual.ensures.0
-      c.in_err-write_steps.ensures.bytes);
+      c.in_err-write_each.ensures.bytes);
   cause = search rules;
 }
 
@@ -20,7 +20,7 @@ pub returns-in_err-write_threats : goal.returns-in_err-write_threats
 returns-in_err-write_threats g c = record {
   bytes =
       rw entries_spelled
-      (second_cut_short _ _ _ _ _ _ _ _ _ _ c.from_residual-in_err-write_threats.ensures.0 c.in_ok-write_steps.ensures.bytes
+      (second_cut_short _ _ _ _ _ _ _ _ _ _ c.from_residual-in_err-write_threats.ensures.0 c.in_ok-write_each.ensures.bytes
       c.in_err-write_threats.ensures.bytes);
   cause = search rules;
 }
@@ -29,7 +29,7 @@ pub returns : goal.returns
 returns g c = record {
   bytes =
       rw entries_spelled
-      (three_spelled _ _ _ _ _ _ _ _ _ _ _ _ c.in_ok-write_steps.ensures.bytes c.in_ok-write_threats.ensures.bytes
-      c.write_answers.ensures.bytes);
+      (three_spelled _ _ _ _ _ _ _ _ _ _ _ _ c.in_ok-write_each.ensures.bytes c.in_ok-write_threats.ensures.bytes
+      c.write_each-2.ensures.bytes);
   cause = search rules;
 }

@@ -4,12 +4,12 @@ use Rattle.hx_text.proofs.writer.write_rule.Goals as goal
 
 pub returns-in-Links : goal.returns-in-Links
 returns-in-Links g c = record {
-  bytes = rw (c.in-Links.is, step_lines_spelled, ← c.items.ensures) c.write_steps.ensures.bytes;
+  bytes = rw (c.in-Links.is, step_lines_spelled, ← c.items.ensures) c.write_each.ensures.bytes;
   cause = search rules;
 }
 
 pub returns-in-Fill : goal.returns-in-Fill
 returns-in-Fill g c = record {
-  bytes = rw (c.in-Fill.is, fill_lines_spelled, ← c.items-in-Fill.ensures) c.write_fills.ensures.bytes;
+  bytes = rw (c.in-Fill.is, fill_lines_spelled, ← c.items-in-Fill.ensures) c.write_each-in-Fill.ensures.bytes;
   cause = search rules;
 }
