@@ -6,6 +6,7 @@ mod laws;
 mod searchers;
 mod serving;
 mod sessions;
+mod talks;
 
 pub use hx_lines::Ended;
 pub use laws::{only_lines_above_a_limit_are_too_long, only_lines_within_the_limits_are_done};

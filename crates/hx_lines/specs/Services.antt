@@ -2,9 +2,11 @@
 -- after the other, until it stops behind one or no line is left. Which replies answer which lines is told by a
 -- relation, `answers`: it speaks of the lines that were answered, and of no others.
 use Rattle.std.specs.Prelude.{◌≡◌, ℕ, ◌<◌, ◌≤◌, Bool, true, false, List, [], ◌∷◌, ◌++◌, length, All, Option, Some}
-use Rattle.std.specs.Prelude.{IfSome}
+use Rattle.std.specs.Prelude.{IfSome, IfOk, Result, Ok, Err}
 use Rattle.hx_io.specs.Sources.{prepend}
-use Rattle.hx_io.specs.Sinks.{append, TakesFront}
+use Rattle.hx_io.specs.Sinks.{Writing, append, TakesFront, WritesAll}
+use Rattle.hx_lines.specs.declared.cutters.Cut.{Cut}
+use Rattle.hx_lines.specs.declared.cutters.Cut.TheVariants as cut
 use Rattle.hx_lines.specs.Lines.{HasLf, longest, ended_lines, lines_of}
 use Rattle.hx_lines.specs.declared.ended.Ended.{Ended}
 use Rattle.hx_lines.specs.declared.ended.Ended.TheVariants.{Stopped, Over, ReadFault, WriteFault, TooLong}
@@ -131,33 +133,57 @@ Ends service answers before left taken now ReadFault = IsReadFault service answe
 Ends service answers before left taken now WriteFault = IsWriteFault service answers before left taken now
 Ends service answers before left taken now TooLong = IfSome before (λ input. IsTooLong service answers input taken now)
 
+-- the last words of a service that ends so: there are none where it stopped or a write failed
+abbrev pub words_at : Service → Ended → List ℕ
+words_at service Stopped = []
+words_at service Over = service.over_words
+words_at service ReadFault = service.read_fault_words
+words_at service WriteFault = []
+words_at service TooLong = service.too_long_words
+
+-- A text of which this holds was written, or a front of it where the sink failed; and it was told whether the service
+-- stops behind it.
+pub record Replies {E : Type 0} (IsReply : List ℕ → Bool → Type 0) (before now : Writing)
+    (result : Result Bool E) : Type 0 where
+  pub text : List ℕ
+  pub stops : Bool
+  pub is_reply : IsReply text stops
+  pub told : IfOk result (λ told. told ≡ stops)
+  pub written : WritesAll before now result text
+
+-- the step from a line to its reply: behind lines that were answered so it answers one more, and stops or goes on
+abbrev pub StepsOn : Answers → List ℕ → List ℕ → Bool → Answers → Type 0
+StepsOn answers line reply stops then_answers =
+    (lines : List (List ℕ)) (replies : List ℕ) → answers lines replies false
+    → then_answers (lines ++ line ∷ []) (replies ++ reply) stops
+
+-- what is answered by the one is answered by the other
+abbrev pub Completes : Answers → Answers → Type 0
+Completes runs answers =
+    (lines : List (List ℕ)) (replies : List ℕ) (stopped : Bool) → runs lines replies stopped
+    → answers lines replies stopped
+
+-- ---- words for the functions inside the crate alone
+
 -- the last words were written, or a front of them
 pub data SaysLast (old new : Option (List ℕ)) (words : List ℕ) (ended result : Ended) : Type 0 where
   Whole : result ≡ ended → new ≡ append old words → SaysLast old new words ended result
   Front : result ≡ WriteFault → TakesFront old new words → SaysLast old new words ended result
 
--- ---- a service between two lines
+-- how a service ends where no line is answered
+abbrev pub end_at : {E : Type 0} → Result Cut E → Ended
+end_at (Ok cut.Over) = Over
+end_at (Ok _) = TooLong
+end_at (Err _) = ReadFault
 
--- So many lines were read and answered, as `runs` says, and the service goes on: what the source had left and the sink
--- had taken when it began; how many lines; the bytes that are held behind them, and what is left and was taken.
-pub record Stands (runs : Answers) (before taken : Option (List ℕ)) (count : ℕ) (held : List ℕ)
+-- So many lines were read and answered, and the service goes on: what the source had left and the sink had taken when
+-- it began; how many lines; the bytes that are held behind them, and what is left and was taken.
+pub record Stands (answers : Answers) (before taken : Option (List ℕ)) (count : ℕ) (held : List ℕ)
     (left now : Option (List ℕ)) : Type 0 where
   pub lines : List (List ℕ)
   pub replies : List ℕ
   pub passed : ArePassed lines
   pub counted : length lines ≡ count
   pub parts : before ≡ prepend (ended_lines lines ++ held) left
-  pub run : runs lines replies false
+  pub run : answers lines replies false
   pub wrote : now ≡ append taken replies
-
--- the step from a line to its reply: behind lines that were answered so it answers one more, and stops or goes on
-abbrev pub StepsOn : Answers → List ℕ → List ℕ → Bool → Answers → Type 0
-StepsOn runs line reply stops then_runs =
-    (lines : List (List ℕ)) (replies : List ℕ) → runs lines replies false
-    → then_runs (lines ++ line ∷ []) (replies ++ reply) stops
-
--- what ran so is a run of the service
-abbrev pub Completes : Answers → Answers → Type 0
-Completes runs answers =
-    (lines : List (List ℕ)) (replies : List ℕ) (stopped : Bool) → runs lines replies stopped
-    → answers lines replies stopped

@@ -6,7 +6,7 @@ use Rattle.hx_board.specs.declared.colours.Colour.{Colour}
 use Rattle.hx_board.specs.declared.colours.Colour.TheVariants.{Black, White}
 use Rattle.hx_board.specs.Colours.{other_of}
 use Rattle.hx_board.specs.Positions.{Board, put}
-use Rattle.hx_lines.specs.Services.{StepsOn, Completes}
+use Rattle.hx_lines.specs.Services.{StepsOn}
 use Rattle.hx_play.specs.Games.{Game, PlaysMove, NeedsNoMove}
 use Rattle.hx_play.specs.GameTexts.{AnswersLine, EndsByChain, IsOwnMove, NamesEmpty, Opens, chain_text, move_line, play_line}
 use Rattle.hx_play.specs.GameTexts.AnswersLine.{Plays, IsIllegal}
@@ -98,6 +98,3 @@ pub steps_on : (start old now : Game) (line reply : List ℕ) (ended : Bool) →
     → StepsOn (game_answers start old) line reply ended (game_answers start now)
 steps_on start old now line reply ended answers = λ lines text run.
     Then (lines ++ line ∷ []) (text ++ reply) now ended lines line text reply old refl refl run answers
-
-pub completes : (start now : Game) → Completes (game_answers start now) (game_answers start now)
-completes start now = λ lines text ended run. run

@@ -46,9 +46,3 @@ Ends start now before left taken taken_now served =
 pub record IsWaiting (game : Game) : Type 0 where
   pub going : ¬ HasChain game.position game.winner
   pub turn : game.to_move ≡ other_of game.winner
-
--- So many lines were read and answered, and the game goes on.
-abbrev pub Stands : Game → Option (List ℕ) → Option (List ℕ) → ℕ → List ℕ → Option (List ℕ) → Option (List ℕ) → Game
-    → Type 0
-Stands start before taken count held left taken_now now =
-    services.Stands (game_answers start now) before taken count held left taken_now

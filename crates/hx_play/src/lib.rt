@@ -6,6 +6,7 @@ mod kept;
 mod laws;
 mod players;
 mod replies;
+mod services;
 mod serving;
 mod stands;
 
