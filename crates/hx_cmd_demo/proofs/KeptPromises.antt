@@ -5,36 +5,25 @@ use Rattle.hx_io.specs.Sinks.{Writing, append}
 use Rattle.hx_limits.specs.declared.settings.Settings.{Settings}
 use Rattle.hx_answers.specs.Endings.{IsWritten}
 use Rattle.hx_finish.specs.declared.finishes.Finish.{Finish}
-use Rattle.hx_finish.proofs.SearchEnds.{EndsSo, said_so, open_so}
+use Rattle.hx_finish.proofs.SearchEnds.{said_so, open_so}
 use Rattle.hx_cmd_demo.specs.declared.answers.DemoAnswer.{DemoAnswer}
 use Rattle.hx_cmd_demo.specs.declared.answers.DemoAnswer.TheVariants.{Counted, LeftOpen}
 use Rattle.hx_cmd_demo.specs.Answers.{enough, counts_line, answer_text, status_of, tally_of, IsDue}
-use Rattle.hx_cmd_demo.specs.Promises.{SaysCounts, KeepsPromises}
+use Rattle.hx_cmd_demo.specs.Promises.{KeepsPromises}
 
 -- what is left open is so only with a lower budget
 pub low_budget : (budget : ℕ) → (enough ≤ budget → ⊥) → budget < enough
 low_budget budget not_enough = ⊎_elim (λ less. less) (λ some. absurd (not_enough some)) (cases_lt budget enough)
 
-module _ (seed : ℕ) (settings : Settings) (sink sink_now : Writing) (answer : DemoAnswer) (finish : Finish) where
-  ends : (answer : DemoAnswer) → IsDue seed settings answer → finish.tally ≡ tally_of settings answer
-      → IsWritten sink sink_now (answer_text answer) (status_of answer) finish.status
-      → EndsSo (SaysCounts seed sink.taken sink_now.taken) (settings.budget < enough) settings sink sink_now finish
-  ends (Counted number wins) due counted written = said_so _ _ settings sink sink_now finish (counts_line number wins) (λ is. record {
-    wins = wins;
-    counts = due.1;
-    output = is ∙ ap (λ (n : ℕ). append sink.taken (counts_line n wins)) due.0;
-  }) counted written
-  ends (LeftOpen wanting) due counted written = open_so _ _ settings sink sink_now finish wanting due counted written
-
-  pub kept : IsDue seed settings answer → finish.tally ≡ tally_of settings answer
-      → IsWritten sink sink_now (answer_text answer) (status_of answer) finish.status
-      → KeepsPromises seed settings sink sink_now finish
-  kept due counted written = let so = ends answer due counted written in record {
-    counted = so.said;
-    no_refusal = so.no_refusal;
-    solved = λ some. so.without_cause (λ less. omega (arith, some, less));
-    unknown = so.unknown;
-    memory = so.memory;
-    write_fault = so.write_fault;
-    none_else = so.none_else;
-  }
+pub kept : (seed : ℕ) (settings : Settings) (sink sink_now : Writing) (answer : DemoAnswer) (finish : Finish)
+    → IsDue seed settings answer → finish.tally ≡ tally_of settings answer
+    → IsWritten sink sink_now (answer_text answer) (status_of answer) finish.status
+    → KeepsPromises seed settings sink sink_now finish
+kept seed settings sink sink_now (Counted number wins) finish due counted written =
+    said_so _ _ _ settings sink sink_now finish (counts_line number wins) (λ is. record {
+      wins = wins;
+      counts = due.1;
+      output = is ∙ ap (λ (n : ℕ). append sink.taken (counts_line n wins)) due.0;
+    }) counted written
+kept seed settings sink sink_now (LeftOpen wanting) finish due counted written =
+    open_so _ _ _ settings sink sink_now finish (λ some less. omega (arith, some, less)) wanting due counted written

@@ -17,20 +17,13 @@ use crate::roots::winner_by_check;
 use hx_answers::WRITE_FAULT;
 use hx_board::{Colour, Memory, Position};
 use hx_demo::Draw;
-use hx_finish::{Finish, LeftOpen, left_open};
+use hx_finish::{Finding, Finish, left_open};
 use hx_io::{Failed, Gate, Sink};
-use hx_limits::{RanOut, Settings, Tally};
+use hx_limits::{RanOut, Settings};
 use hx_solve::solve;
 use std::alloc::Global;
 use std::sync::Wait;
 use std::thread::Threads;
-
-/// What is to be said, and the refusals that stand behind it.
-#[derive(Drop)]
-struct DemoFinding {
-    answer: DemoAnswer,
-    tally: Tally,
-}
 
 /// Draws positions with this seed, solves each of them with these settings, checks its tree, and writes how many each
 /// player wins with Black to move, or why one was not solved.
@@ -53,7 +46,7 @@ pub fn run_demo<K: Sink, G: Gate + Sync, R: Threads + Wait + Sync>(
     ensures promises { KeepsPromises seed settings
         (K.writing sink.old) (K.writing sink.new) result }
 {
-    let DemoFinding { answer, tally } = settle(rt, alloc, seed, settings, gate);
+    let Finding { answer, tally } = settle(rt, alloc, seed, settings, gate);
     let status = say(sink, &answer);
     Finish { status, tally }
 }
@@ -76,20 +69,17 @@ fn settle<G: Gate + Sync, R: Threads + Wait + Sync>(
     seed: u64,
     settings: Settings,
     gate: &G,
-) -> DemoFinding
+) -> Finding<DemoAnswer>
     requires { AreSettings settings }
     ensures due { IsDue seed settings result.answer }
     ensures counted { result.tally ≡ tally_of settings result.answer }
 {
     match count_wins(rt, alloc, seed, settings, gate) {
-        Ok(wins) => DemoFinding {
-            answer: DemoAnswer::Counted { seed, wins },
-            tally: Tally::new(settings.budget, settings.slots),
-        },
+        Ok(wins) => Finding::without_refusal(settings, DemoAnswer::Counted { seed, wins }),
         Err(why) => {
-            let LeftOpen { wanting, tally } = left_open(settings, why);
-            DemoFinding {
-                answer: DemoAnswer::LeftOpen(wanting),
+            let Finding { answer, tally } = left_open(settings, why);
+            Finding {
+                answer: DemoAnswer::LeftOpen(answer),
                 tally,
             }
         }

@@ -9,7 +9,6 @@ ghost use Rattle.hx_tree.specs.declared.nodes.Node.{Node as TreeNode};
 ghost use Rattle.hx_tree.specs.Plain.{ArePlain};
 ghost use Rattle.hx_tree.specs.Trees.{IsValidTree, IsRoot};
 ghost use Rattle.hx_limits.specs.Settings.{AreSettings};
-ghost use Rattle.hx_finish.specs.Wants.{no_refusal};
 ghost use Rattle.hx_limits.specs.Causes.{HasCause, LacksMemory, LacksUnit};
 ghost use Rattle.hx_solve.specs.Solutions.{IsSolution};
 ghost use Rattle.hx_answers.specs.Endings.{IsReadToEnd, IsWritten};
@@ -20,9 +19,9 @@ use crate::answers::{Answer, write_answer};
 use crate::solutions::Solution;
 use hx_answers::{Unread, WRITE_FAULT, read_all};
 use hx_board::{Colour, Position};
-use hx_finish::{Finish, LeftOpen, Wanting, left_open, root_winner};
+use hx_finish::{Finding, Finish, Wanting, left_open, root_winner};
 use hx_io::{Failed, Gate, Sink, Source};
-use hx_limits::{RanOut, Settings, Tally};
+use hx_limits::{RanOut, Settings};
 use hx_lines::LONGEST;
 use hx_parse::read_position;
 use hx_solve::{solve_naming_move, solve_plain};
@@ -31,13 +30,6 @@ use hx_tree::Node;
 use std::alloc::Global;
 use std::sync::Wait;
 use std::thread::Threads;
-
-/// What is to be said, and the refusals that stand behind it.
-#[derive(Drop)]
-struct Finding {
-    answer: Answer,
-    tally: Tally,
-}
 
 /// Reads the text of a position, solves it with these settings, and writes the text of a tree that proves who wins it,
 /// or why there is none.
@@ -89,7 +81,7 @@ fn settle<S: Source, G: Gate + Sync, R: Threads + Wait + Sync>(
     plain_tree: bool,
     source: &mut S,
     gate: &G,
-) -> Finding
+) -> Finding<Answer>
     requires { AreSettings settings }
     ensures due { IsDue settings plain_tree (S.reading source.old).left
         (SomeReadFailed (S.reading source.old) (S.reading source.new)) result.answer }
@@ -100,23 +92,12 @@ fn settle<S: Source, G: Gate + Sync, R: Threads + Wait + Sync>(
 {
     match read_all(alloc, source, LONGEST) {
         Ok(bytes) => found(rt, alloc, settings, plain_tree, &bytes, gate),
-        Err(Unread::Failed) => without_refusal(settings, Answer::ReadFault),
-        Err(Unread::TooLong) => without_refusal(settings, Answer::TooLong),
-        Err(Unread::OutOfMemory) => without_refusal(
+        Err(Unread::Failed) => Finding::without_refusal(settings, Answer::ReadFault),
+        Err(Unread::TooLong) => Finding::without_refusal(settings, Answer::TooLong),
+        Err(Unread::OutOfMemory) => Finding::without_refusal(
             settings,
             Answer::LeftOpen(Wanting::OutOfMemory),
         ),
-    }
-}
-
-/// An answer that no refusal stands behind.
-fn without_refusal(settings: Settings, answer: Answer) -> Finding
-    ensures answer { result.answer ≡ answer }
-    ensures tally { result.tally ≡ no_refusal settings }
-{
-    Finding {
-        answer,
-        tally: Tally::new(settings.budget, settings.slots),
     }
 }
 
@@ -128,7 +109,7 @@ fn found<G: Gate + Sync, R: Threads + Wait + Sync>(
     plain_tree: bool,
     input: &[u8],
     gate: &G,
-) -> Finding
+) -> Finding<Answer>
     requires { AreSettings settings }
     ensures found { IsFound settings plain_tree input.now result.answer }
     ensures counted { result.tally ≡ tally_of settings result.answer }
@@ -137,15 +118,15 @@ fn found<G: Gate + Sync, R: Threads + Wait + Sync>(
     let (position, to_move) = match read_position(input) {
         Ok(found) => found,
         Err(fault) => {
-            return without_refusal(settings, Answer::BadPosition { line: fault.line });
+            return Finding::without_refusal(settings, Answer::BadPosition { line: fault.line });
         }
     };
     match search(rt, alloc, &position, to_move, settings, plain_tree, gate) {
-        Ok(nodes) => without_refusal(settings, Answer::Solved(solution_of(&position, nodes))),
+        Ok(nodes) => Finding::without_refusal(settings, Answer::Solved(solution_of(&position, nodes))),
         Err(why) => {
-            let LeftOpen { wanting, tally } = left_open(settings, why);
+            let Finding { answer, tally } = left_open(settings, why);
             Finding {
-                answer: Answer::LeftOpen(wanting),
+                answer: Answer::LeftOpen(answer),
                 tally,
             }
         }

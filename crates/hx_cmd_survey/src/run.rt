@@ -9,19 +9,13 @@ ghost use Rattle.hx_cmd_survey.specs.Promises.{KeepsPromises};
 use crate::answers::{Answer, write_answer};
 use hx_answers::WRITE_FAULT;
 use hx_board::Size;
-use hx_finish::{Finish, LeftOpen, left_open};
+use hx_finish::{Finding, Finish, left_open};
 use hx_io::{Failed, Gate, Sink};
-use hx_limits::{Settings, Tally};
+use hx_limits::Settings;
 use hx_survey::survey;
 use std::alloc::Global;
 use std::sync::Wait;
 use std::thread::Threads;
-
-/// What is to be said, and the refusals that stand behind it.
-struct Finding {
-    answer: Answer,
-    tally: Tally,
-}
 
 /// Finds who wins after each opening of a board of this size, by workers with these settings, and writes it as a table,
 /// or why some opening was left open.
@@ -56,20 +50,17 @@ fn settle<G: Gate + Sync, R: Threads + Wait + Sync>(
     size: Size,
     settings: Settings,
     gate: &G,
-) -> Finding
+) -> Finding<Answer>
     requires { AreSettings settings }
     ensures due { IsDue size settings result.answer }
     ensures counted { result.tally ≡ tally_of settings result.answer }
 {
     match survey(rt, alloc, size, settings, gate) {
-        Ok(table) => Finding {
-            answer: Answer::Surveyed(table),
-            tally: Tally::new(settings.budget, settings.slots),
-        },
+        Ok(table) => Finding::without_refusal(settings, Answer::Surveyed(table)),
         Err(why) => {
-            let LeftOpen { wanting, tally } = left_open(settings, why);
+            let Finding { answer, tally } = left_open(settings, why);
             Finding {
-                answer: Answer::LeftOpen(wanting),
+                answer: Answer::LeftOpen(answer),
                 tally,
             }
         }

@@ -3,31 +3,23 @@
 use Rattle.std.proofs.Common.{◌≡◌, ◌⊎◌, ℕ, inl, inr, ⊎_elim, List, refl, sym, ◌∙◌, arith}
 use Rattle.hx_io.specs.Sinks.{Writing, SomeWriteFailed, append}
 use Rattle.hx_limits.specs.declared.settings.Settings.{Settings}
-use Rattle.hx_answers.specs.Texts.{out_of_memory_line}
 use Rattle.hx_answers.specs.Endings.{IsWritten, Whole, Cut}
 use Rattle.hx_finish.specs.declared.finishes.Finish.{Finish}
 use Rattle.hx_finish.specs.declared.wanting.Wanting.{Wanting}
-use Rattle.hx_finish.specs.Finishes.{SaysUnknown, CountsNoRefusal, IsUnlessCutShort}
+use Rattle.hx_finish.specs.Finishes.{EndsSo}
 use Rattle.hx_finish.specs.Wants.{wanting_text, wanting_status, wanting_tally, no_refusal, IsWantingWhere}
 use Rattle.hx_finish.proofs.WantingEnds.{wanting_unknown, wanting_memory, wanting_without_cause, wanting_status-3_or_7, wanting_status-not}
 
--- with status 0 the output says this, and what is left open has this cause
-module _ (says cause : Type 0) (settings : Settings) (sink sink_now : Writing) (finish : Finish) where
-  pub record EndsSo : Type 0 where
-    pub said : finish.status ≡ 0 → says
-    pub no_refusal : finish.status ≡ 0 → CountsNoRefusal finish.tally
-    pub without_cause : (cause → ⊥) → IsUnlessCutShort finish.status 0
-    pub unknown : finish.status ≡ 3 → cause × SaysUnknown settings sink.taken sink_now.taken finish.tally
-    pub memory : finish.status ≡ 7 → sink_now.taken ≡ append sink.taken out_of_memory_line
-    pub write_fault : finish.status ≡ 6 → SomeWriteFailed sink sink_now
-    pub none_else : (finish.status ≡ 3) ⊎ IsUnlessCutShort finish.status 0
+module _ (says enough cause : Type 0) (settings : Settings) (sink sink_now : Writing) (finish : Finish) where
+  abbrev Ends : Type 0
+  Ends = EndsSo says enough cause settings sink sink_now finish
 
   -- the sink failed before it took all of an answer
-  cut_so : finish.status ≡ 6 → SomeWriteFailed sink sink_now → EndsSo
+  cut_so : finish.status ≡ 6 → SomeWriteFailed sink sink_now → Ends
   cut_so six failed = record {
     said = λ zero. absurd (omega (arith, six, zero));
     no_refusal = λ zero. absurd (omega (arith, six, zero));
-    without_cause = λ none. inr (inl six);
+    enough_ends = λ some. inr (inl six);
     unknown = λ three. absurd (omega (arith, six, three));
     memory = λ seven. absurd (omega (arith, six, seven));
     write_fault = λ is. failed;
@@ -35,11 +27,11 @@ module _ (says cause : Type 0) (settings : Settings) (sink sink_now : Writing) (
   }
 
   pub said_so : (text : List ℕ) → (sink_now.taken ≡ append sink.taken text → says) → finish.tally ≡ no_refusal settings
-      → IsWritten sink sink_now text 0 finish.status → EndsSo
+      → IsWritten sink sink_now text 0 finish.status → Ends
   said_so text told counted (Whole zero written) = record {
     said = λ is. told written;
     no_refusal = λ is. (rw counted refl, rw counted refl);
-    without_cause = λ none. inl zero;
+    enough_ends = λ some. inl zero;
     unknown = λ three. absurd (omega (arith, zero, three));
     memory = λ seven. absurd (omega (arith, zero, seven));
     write_fault = λ six. absurd (omega (arith, zero, six));
@@ -47,14 +39,15 @@ module _ (says cause : Type 0) (settings : Settings) (sink sink_now : Writing) (
   }
   said_so text told counted (Cut six failed front) = cut_so six failed
 
-  pub open_so : (wanting : Wanting) → IsWantingWhere settings cause wanting → finish.tally ≡ wanting_tally settings wanting
-      → IsWritten sink sink_now (wanting_text wanting) (wanting_status wanting) finish.status → EndsSo
-  open_so wanting due counted (Whole same written) =
+  -- where there is enough there is no cause
+  pub open_so : (enough → cause → ⊥) → (wanting : Wanting) → IsWantingWhere settings cause wanting → finish.tally ≡ wanting_tally settings wanting
+      → IsWritten sink sink_now (wanting_text wanting) (wanting_status wanting) finish.status → Ends
+  open_so no_cause wanting due counted (Whole same written) =
       let other : (status : ℕ) → (3 ≡ status → ⊥) → (7 ≡ status → ⊥) → finish.status ≡ status → ⊥ =
       λ status not_3 not_7 is. wanting_status-not wanting status not_3 not_7 (sym same ∙ is) in record {
         said = λ zero. absurd (other 0 (λ e. omega (arith, e)) (λ e. omega (arith, e)) zero);
         no_refusal = λ zero. absurd (other 0 (λ e. omega (arith, e)) (λ e. omega (arith, e)) zero);
-        without_cause = λ none. inr (inr (same ∙ wanting_without_cause settings cause wanting none due));
+        enough_ends = λ some. inr (inr (same ∙ wanting_without_cause settings cause wanting (no_cause some) due));
         unknown = λ three.
             wanting_unknown settings cause sink.taken sink_now.taken finish.tally wanting (sym same ∙ three) due written counted;
         memory = λ seven.
@@ -62,4 +55,4 @@ module _ (says cause : Type 0) (settings : Settings) (sink sink_now : Writing) (
         write_fault = λ six. absurd (other 6 (λ e. omega (arith, e)) (λ e. omega (arith, e)) six);
         none_else = ⊎_elim (λ three. inl (same ∙ three)) (λ seven. inr (inr (inr (same ∙ seven)))) (wanting_status-3_or_7 wanting);
       }
-  open_so wanting due counted (Cut six failed front) = cut_so six failed
+  open_so no_cause wanting due counted (Cut six failed front) = cut_so six failed

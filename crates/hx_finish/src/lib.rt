@@ -6,6 +6,6 @@ mod finishes;
 mod wanting;
 mod winners;
 
-pub use finishes::Finish;
-pub use wanting::{LeftOpen, Wanting, left_open, write_wanting};
+pub use finishes::{Finding, Finish};
+pub use wanting::{Wanting, left_open, write_wanting};
 pub use winners::root_winner;

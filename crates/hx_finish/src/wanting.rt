@@ -5,6 +5,7 @@ ghost use Rattle.hx_io.specs.Sinks.{WritesAll};
 ghost use Rattle.hx_limits.specs.Causes.{HasCause};
 ghost use Rattle.hx_finish.specs.Wants.{wanting_text, wanting_status, wanting_tally, Tells};
 
+use crate::finishes::Finding;
 use hx_answers::{
     OUT_OF_MEMORY, UNKNOWN, write_out_of_memory, write_unknown_budget, write_unknown_proofs,
 };
@@ -20,13 +21,6 @@ pub enum Wanting {
     UnknownProofs { slots: u32 },
     /// There was not enough memory.
     OutOfMemory,
-}
-
-/// What is told where a search came to no answer, and the refusal that stands behind it.
-#[derive(Debug, Drop)]
-pub struct LeftOpen {
-    pub wanting: Wanting,
-    pub tally: Tally,
 }
 
 impl Wanting {
@@ -53,10 +47,10 @@ pub fn write_wanting<K: Sink>(sink: &mut K, wanting: Wanting) -> Result<(), Fail
 }
 
 /// What is told where this was wanting. The refusal is counted.
-pub fn left_open(settings: Settings, why: RanOut) -> LeftOpen
+pub fn left_open(settings: Settings, why: RanOut) -> Finding<Wanting>
     requires { HasCause settings why }
-    ensures tells { Tells settings why result.wanting }
-    ensures counted { result.tally ≡ wanting_tally settings result.wanting }
+    ensures tells { Tells settings why result.answer }
+    ensures counted { result.tally ≡ wanting_tally settings result.answer }
 {
     let mut tally = Tally::new(settings.budget, settings.slots);
     let wanting = match why {
@@ -74,5 +68,8 @@ pub fn left_open(settings: Settings, why: RanOut) -> LeftOpen
         }
         RanOut::Memory => Wanting::OutOfMemory,
     };
-    LeftOpen { wanting, tally }
+    Finding {
+        answer: wanting,
+        tally,
+    }
 }

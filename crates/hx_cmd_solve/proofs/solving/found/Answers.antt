@@ -20,4 +20,4 @@ pub returns-in-Err-search-clause-found : goal.returns-in-Err-search-clause-found
 returns-in-Err-search-clause-found g c =
     left_open_found c.args.settings c.args.plain_tree c.args.input.now c.in-Ok.found.0 c.in-Ok.found.1 c.in-Err-search.why
     _ (record { is_board = c.in-Ok.ensures.read.0; same = c.in-Ok.ensures.read.1 }) c.in-Err-search.ensures.small
-    c.in-Err-search.ensures.no_chain c.left_open-wanting.ensures.tells
+    c.in-Err-search.ensures.no_chain c.left_open-answer.ensures.tells
