@@ -26,32 +26,25 @@ module _ (base : Board) (player : Colour) (steps : List Step) (links : List Link
   abbrev Parted : List Bool → Option ℕ → Board → ℕ → Type 0
   Parted some stone board from = ArePartedFrom base player steps links some stone board from
 
-  -- what is named is marked within the room
+  -- the place of a part is within the room
+  inside_room : (part : ℕ) (step : Step) → slice_get steps place ≡ Some step → length steps ≤ length marks → part < place
+      → part < length marks
+  inside_room part step at room less = omega (arith, slice_get_within steps place step at)
+
   pub left-inside : (left other : ℕ) → slice_get steps place ≡ Some (AndStone left other) → length steps ≤ length marks
       → left < length marks
   left-inside left other at room =
-      let g : IsGiven base player links place (AndStone left other) =
-      given_at base player steps links place (AndStone left other) right at in
-      omega (
-        arith,
-        named-before base player links place
-            (AndStone left other) g left g.gives.rule.over.first g.gives.rule.over.first_there,
-        slice_get_within steps place
-            (AndStone left other) at,
-      )
+      let g = given_at base player steps links place (AndStone left other) right at in
+      inside_room left (AndStone left other) at room
+      (named-before base player links place (AndStone left other) g left g.gives.rule.over.first g.gives.rule.over.first_there)
 
   pub right-inside : (other right_place : ℕ) → slice_get steps place ≡ Some (AndStone other right_place) → length steps ≤ length marks
       → right_place < length marks
   right-inside other right_place at room =
-      let g : IsGiven base player links place (AndStone other right_place) =
-      given_at base player steps links place (AndStone other right_place) right at in
-      omega (
-        arith,
-        named-before base player links place
-            (AndStone other right_place) g right_place g.gives.rule.over.second g.gives.rule.over.second_there,
-        slice_get_within steps place
-            (AndStone other right_place) at,
-      )
+      let g = given_at base player steps links place (AndStone other right_place) right at in
+      inside_room right_place (AndStone other right_place) at room
+      (named-before base player links place (AndStone other right_place) g right_place g.gives.rule.over.second
+      g.gives.rule.over.second_there)
 
   module _ (stone : Option ℕ) (board : Board) where
     -- where the place itself is not marked, or by an Or, nothing has to be done

@@ -1,6 +1,6 @@
 -- The tree of a proof that a search came to solves the position; what else the search came to is a cause.
 use Rattle.std.proofs.Common.{◌≡◌, ℕ, ◌≤◌, List, length, get_or, sym, ap, ◌∙◌, subst, arith}
-use Rattle.std.specs.Prelude.{slice_get, Result, Ok, Err}
+use Rattle.std.specs.Prelude.{slice_get, Result, Ok, Err, IfOk, IfErr}
 use Rattle.std.proofs.lemmas.Option.{slice_get-get_or, same_Some, slice_get_within}
 use Rattle.hx_board.specs.declared.colours.Colour.{Colour}
 use Rattle.hx_board.specs.Positions.{Board}
@@ -67,10 +67,18 @@ entry-solves nodes tree board mover found first is = record {
     position : is.root.heading.position ≡ board
     position = ap (λ (h : Heading). h.position) same ∙ first.first.entry.is_of.same_position
 
-pub tree-solves : (nodes tree : List Node) (granted : ℕ) (board : Board) (mover : Colour) (settings : Settings) (end : Result Found RanOut)
+tree-solves : (nodes tree : List Node) (granted : ℕ) (board : Board) (mover : Colour) (settings : Settings) (end : Result Found RanOut)
     → IsClosedEnd (IsProofOf board mover) nodes granted settings end → IsTreeFrom nodes end tree → IsSolution board mover tree
 tree-solves nodes tree granted board mover settings (Ok found) says is = entry-solves nodes tree board mover found says is
 tree-solves nodes tree granted board mover settings (Err why) says is = absurd is
+
+-- what is made of the end solves the position, where it is a tree
+pub tree-told : {T : Type 0} (result : Result T RanOut) (items : T → List Node) (nodes : List Node) (granted : ℕ) (board : Board)
+    (mover : Colour) (settings : Settings) (end : Result Found RanOut) → IsClosedEnd (IsProofOf board mover) nodes granted settings end
+    → IfOk result (λ tree. IsTreeFrom nodes end (items tree)) → IfOk result (λ tree. IsSolution board mover (items tree))
+tree-told (Ok tree) items nodes granted board mover settings end says is =
+    tree-solves nodes (items tree) granted board mover settings end says is
+tree-told (Err why) items nodes granted board mover settings end says is = tt
 
 pub entry-there : (nodes : List Node) (granted : ℕ) (board : Board) (mover : Colour) (settings : Settings) (end : Result Found RanOut)
     → IsClosedEnd (IsProofOf board mover) nodes granted settings end → HasEntryFor nodes end
@@ -89,9 +97,15 @@ cause-by nodes granted board mover settings (Err (Slots refusal)) why book says 
 cause-by nodes granted board mover settings (Err Memory) why book says is = subst (HasCause settings) (sym is) tt
 
 -- a unit is wanting where the end says so
-pub spent-by : (end : Result Found RanOut) (why : RanOut) → SaysWhy end why → LacksUnit why → EndsSpent end
+spent-by : (end : Result Found RanOut) (why : RanOut) → SaysWhy end why → LacksUnit why → EndsSpent end
 spent-by (Ok found) why is lacks = absurd (subst LacksUnit is lacks)
 spent-by (Err ran_out) why is lacks = subst LacksUnit is lacks
+
+-- where units are wanting, what is so at an end without units is so
+pub lack-told : {T : Type 0} (result : Result T RanOut) (end : Result Found RanOut) (Asked Told : Type 0) → (EndsSpent end → Asked → Told)
+    → IfErr result (SaysWhy end) → IfErr result (λ why. LacksUnit why → Asked → Told)
+lack-told (Ok tree) end Asked Told told is = tt
+lack-told (Err why) end Asked Told told is = λ lacks. told (spent-by end why is lacks)
 
 -- ---- by a full search
 
