@@ -3,7 +3,8 @@
 //! A Full link needs no move, and stays where a move is outside its carrier. A Semi link comes of two Full links that
 //! share an empty cell: a stone there joins them.
 
-use hx_board::{CELLS, Mask, Vertex};
+use hx_board::{Mask, Vertex};
+use hx_cells::each_cell;
 use hx_link::Kind;
 use hx_linkset::LinkSet;
 
@@ -23,12 +24,7 @@ pub(crate) fn linked_cells(set: &LinkSet, index: u32) -> Mask {
 fn cells_between(set: &LinkSet, cells: Mask) -> Mask {
     let size = set.position().size();
     let mut found = Mask::empty();
-    let mut left = cells;
-    for _ in 0..CELLS {
-        let Some(cell) = left.least(size) else {
-            break;
-        };
-        left = left.without(cell);
+    for cell in each_cell(cells, size) {
         let first = set.first_of(Kind::Full, Vertex::First, Vertex::Of(cell));
         let last = set.first_of(Kind::Full, Vertex::Of(cell), Vertex::Last);
         if first.is_some() && last.is_some() {

@@ -4,7 +4,8 @@ ghost use Rattle.hx_linkset.specs.LiveOf.{Decides};
 
 use crate::cells::linked_cells;
 use crate::sets::set_of;
-use hx_board::{CELLS, Cell, Colour, Memory, Vertex};
+use hx_board::{Cell, Colour, Memory, Vertex};
+use hx_cells::each_cell;
 use hx_link::{Kind, Step, Steps};
 use hx_linkset::{Derived, LinkSet};
 use hx_reach::{Reached, Workspace, decided, reach_with};
@@ -28,10 +29,7 @@ pub(crate) fn linked_move(alloc: Global, heading: &Heading, steps: &[Step]) -> O
         return None;
     };
     let size = heading.position.size();
-    let mut left = linked_cells(&set, index);
-    for _ in 0..CELLS {
-        let cell = left.least(size)?;
-        left = left.without(cell);
+    for cell in each_cell(linked_cells(&set, index), size) {
         if let Some(node) = node_after(alloc, &mut workspace, heading, steps, cell) {
             return Some(WinningMove { cell, node });
         }

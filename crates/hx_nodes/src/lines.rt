@@ -11,6 +11,7 @@ ghost use Rattle.hx_nodes.specs.Lines.{wins_next, NamesBetter, IsLineOf, AreLine
 
 use hx_board::{Cell, Colour, Mask, Memory, Position};
 use hx_book::Proofs;
+use hx_cells::each_cell;
 use hx_tree::{Line, Lines};
 use std::alloc::Global;
 use std::sync::Wait;
@@ -37,15 +38,13 @@ pub(crate) fn lines_for<P: Proofs, R: Wait>(
     let Ok(mut lines) = Vec::with_capacity(alloc, cells.count() as usize) else {
         return Err(Memory);
     };
-    let mut left = cells;
-    while let Some(cell) = left.least(size) {
+    for cell in each_cell(cells, size) {
         let Some(line) = line_for(rt, proofs, position, winner, under, cell) else {
             return Ok(None);
         };
         if lines.push(line).is_err() {
             return Err(Memory);
         }
-        left = left.without(cell);
     }
     Ok(Some(Lines::new(lines)))
 }

@@ -5,15 +5,14 @@
 //! counts for more: in cell order the openings of 6 by 6 take more than fifteen times the units, and from the centre
 //! alone one and a half times; by the distances of one player alone the empty 7 by 7 takes twice the units.
 
-ghost use Rattle.std.specs.Prelude.{◌≡◌, ◌<◌, ◌≤◌, IfOk, MatchOption};
-ghost use Rattle.hx_board.specs.declared.vertices.Vertex.TheVariants.{Of};
+ghost use Rattle.std.specs.Prelude.{IfOk};
 ghost use Rattle.hx_board.specs.Graph.{IsVertex};
-ghost use Rattle.hx_board.specs.Sets.{IsLowest};
-ghost use Rattle.hx_board.specs.VertexSets.{code_of};
-ghost use Rattle.hx_ordering.specs.Orders.{HasNoCell, AreCellsOf, AreEmptyCells};
+ghost use Rattle.hx_cells.specs.CellsLeft.{AreCells};
+ghost use Rattle.hx_ordering.specs.Orders.{AreEmptyCells};
 
 use crate::replies::MOST;
 use hx_board::{CELLS, Cell, Mask, Memory, Size, Vertex, VertexSet};
+use hx_cells::{each_cell, each_vertex};
 use hx_link::Kind;
 use hx_linkset::LinkSet;
 use std::alloc::Global;
@@ -21,44 +20,18 @@ use std::alloc::Global;
 /// The distance of a cell from which no way leads to the side.
 const FAR: u32 = 20;
 
-/// The cell that a vertex is.
-fn cell_of(vertex: &Vertex) -> Option<Cell>
-    ensures { MatchOption result (CELLS ≤ code_of vertex.now) (λ cell. vertex.now ≡ Of cell) }
-{
-    match vertex {
-        Vertex::Of(cell) => Some(*cell),
-        Vertex::First | Vertex::Last => None,
-    }
-}
-
-/// The first cell of some cells. It asks for no board, so it takes no time to find out which cells a board has.
-fn first(cells: VertexSet) -> Option<Cell>
-    ensures { MatchOption result (HasNoCell cells)
-        (λ cell. (cell < CELLS) × IsLowest cells cell) }
-{
-    match cells.lowest() {
-        None => None,
-        Some(vertex) => cell_of(&vertex),
-    }
-}
-
-/// Whether a live Full link joins a vertex with a cell.
-fn has_full(set: &LinkSet, vertex: &Vertex, cell: Cell) -> bool {
-    match set.first_of(Kind::Full, *vertex, Vertex::Of(cell)) {
+/// Whether a live Full link joins two vertices.
+fn has_full(set: &LinkSet, a: &Vertex, b: &Vertex) -> bool {
+    match set.first_of(Kind::Full, *a, *b) {
         Some(_) => true,
         None => false,
     }
 }
 
-/// Whether a live Full link joins a cell with one of some cells.
-fn has_full_to_any(set: &LinkSet, cell: Cell, cells: VertexSet) -> bool {
-    let mut left = cells;
-    for _ in 0..CELLS {
-        let Some(other) = first(left) else {
-            return false;
-        };
-        left = left.without(Vertex::Of(other));
-        if has_full(set, &Vertex::Of(other), cell) {
+/// Whether a live Full link joins a vertex with one of some vertices.
+fn has_full_to_any(set: &LinkSet, vertex: &Vertex, others: VertexSet) -> bool {
+    for other in each_vertex(others) {
+        if has_full(set, &other, vertex) {
             return true;
         }
     }
@@ -69,12 +42,7 @@ fn has_full_to_any(set: &LinkSet, cell: Cell, cells: VertexSet) -> bool {
 fn joined_with_any(set: &LinkSet, cells: Mask) -> VertexSet {
     let size = set.position().size();
     let mut joined = VertexSet::empty();
-    let mut left = cells;
-    for _ in 0..CELLS {
-        let Some(cell) = left.least(size) else {
-            break;
-        };
-        left = left.without(cell);
+    for cell in each_cell(cells, size) {
         joined = joined.union(set.groups().joined_with(Vertex::Of(cell)));
     }
     joined
@@ -85,14 +53,9 @@ fn next_to(set: &LinkSet, side: Vertex, cells: VertexSet) -> VertexSet
     requires { IsVertex set.now.present.board.size side }
 {
     let mut found = set.groups().joined_with(side).meet(cells);
-    let mut left = cells.minus(found);
-    for _ in 0..CELLS {
-        let Some(cell) = first(left) else {
-            break;
-        };
-        left = left.without(Vertex::Of(cell));
-        if has_full(set, &side, cell) {
-            found = found.with(Vertex::Of(cell));
+    for cell in each_vertex(cells.minus(found)) {
+        if has_full(set, &side, &cell) {
+            found = found.with(cell);
         }
     }
     found
@@ -101,14 +64,9 @@ fn next_to(set: &LinkSet, side: Vertex, cells: VertexSet) -> VertexSet
 /// Those of some cells that are one step from cells that were reached. Each is asked about until one step is found.
 fn one_step_from(set: &LinkSet, reached: VertexSet, cells: VertexSet) -> VertexSet {
     let mut found = joined_with_any(set, reached.cells()).meet(cells);
-    let mut left = cells.minus(found);
-    for _ in 0..CELLS {
-        let Some(cell) = first(left) else {
-            break;
-        };
-        left = left.without(Vertex::Of(cell));
-        if has_full_to_any(set, cell, reached) {
-            found = found.with(Vertex::Of(cell));
+    for cell in each_vertex(cells.minus(found)) {
+        if has_full_to_any(set, &cell, reached) {
+            found = found.with(cell);
         }
     }
     found
@@ -116,14 +74,11 @@ fn one_step_from(set: &LinkSet, reached: VertexSet, cells: VertexSet) -> VertexS
 
 /// Adds a distance to the sums of some cells.
 fn add(cells: VertexSet, distance: u32, sums: &mut [u32; CELLS]) {
-    let mut left = cells;
-    for _ in 0..CELLS {
-        let Some(cell) = first(left) else {
-            break;
-        };
-        left = left.without(Vertex::Of(cell));
-        let index = cell.index() as usize;
-        sums[index] = sums[index].wrapping_add(distance);
+    for vertex in each_vertex(cells) {
+        if let Vertex::Of(cell) = vertex {
+            let index = cell.index() as usize;
+            sums[index] = sums[index].wrapping_add(distance);
+        }
     }
 }
 
@@ -182,16 +137,11 @@ fn places(size: Size, cells: &[Cell], sums: &[u32; CELLS], earlier: &[u32; CELLS
 }
 
 /// The cells of a set, in cell order.
-fn list(alloc: Global, cells: VertexSet) -> Result<Vec<Cell>, Memory>
-    ensures { IfOk result (λ found. AreCellsOf cells found.items) }
+fn list(alloc: Global, size: Size, cells: Mask) -> Result<Vec<Cell>, Memory>
+    ensures { IfOk result (λ found. AreCells size cells found.items) }
 {
     let mut found = Vec::with_capacity(alloc, CELLS).map_err(|_| Memory)?;
-    let mut left = cells;
-    for _ in 0..CELLS {
-        let Some(cell) = first(left) else {
-            break;
-        };
-        left = left.without(Vertex::Of(cell));
+    for cell in each_cell(cells, size) {
         found.push(cell).map_err(|_| Memory)?;
     }
     Ok(found)
@@ -206,10 +156,9 @@ pub(crate) fn in_order(
     ensures { IfOk result (λ order. AreEmptyCells own.now.present.board order.items) }
 {
     let position = own.position();
-    let cells = VertexSet::of_cells(position.empties());
     let size = position.size();
     let sums = sums(own, others);
-    let mut found = list(own.allocator(), cells)?;
+    let mut found = list(own.allocator(), size, position.empties())?;
     let places = places(size, found.as_slice(), &sums, earlier);
     found
         .sort_by_key(|cell: &Cell| places[cell.index() as usize])

@@ -14,6 +14,7 @@ ghost use Rattle.std.specs.Prelude.{◌<◌};
 
 use crate::situations::Situation;
 use hx_board::{CELLS, Cell, Colour, Mask, Memory};
+use hx_cells::each_cell;
 use hx_count::Hints;
 use hx_pn::Numbers;
 use std::alloc::Global;
@@ -92,12 +93,7 @@ impl Replies {
         };
         let size = situation.filled.position().size();
         let mut largest = 1;
-        let mut left = cells;
-        for _ in 0..CELLS {
-            let Some(cell) = left.least(size) else {
-                break;
-            };
-            left = left.without(cell);
+        for cell in each_cell(cells, size) {
             let count = self.count(situation.to_move, last, cell);
             earlier[cell.index() as usize] = count;
             largest = largest.max(count);

@@ -14,7 +14,8 @@ use crate::useful_ands::push_ands_over;
 use crate::useful_bases::{push_base, push_bases};
 use crate::useful_ors::push_ors_between;
 use crate::workspaces::Workspace;
-use hx_board::{CELLS, Groups, Mask, Memory, Position, Vertex, VertexSet};
+use hx_board::{Groups, Mask, Memory, Position, Vertex, VertexSet};
+use hx_cells::each_cell;
 use hx_link::Kind;
 use hx_linkset::LinkSet;
 
@@ -84,12 +85,7 @@ impl Workspace {
         let position = set.position();
         let groups = Groups::of(before, set.colour());
         let former = standing_stones(before, &groups, before.stones(set.colour()));
-        let mut rest = fresh.union(former);
-        for _ in 0..CELLS as u8 {
-            let Some(stone) = rest.least(position.size()) else {
-                break;
-            };
-            rest = rest.without(stone);
+        for stone in each_cell(fresh.union(former), position.size()) {
             let stands_for = self.ends.stands_for(position, &stone);
             let at = Vertex::Of(stone);
             if stands_for != at {
@@ -104,12 +100,7 @@ impl Workspace {
     /// The cells that are joined with one of these stones.
     fn near(&self, position: &Position, stones: Mask) -> Mask {
         let mut near = Mask::empty();
-        let mut rest = stones;
-        for _ in 0..CELLS as u8 {
-            let Some(stone) = rest.least(position.size()) else {
-                break;
-            };
-            rest = rest.without(stone);
+        for stone in each_cell(stones, position.size()) {
             near = near.union(self.ends.reach(&Vertex::Of(stone)).cells());
         }
         near

@@ -10,6 +10,7 @@ use crate::candidates::{Candidates, Rule};
 use crate::covers::is_covered;
 use crate::ends::Ends;
 use hx_board::{CELLS, Cell, Mask, Memory, Position, Vertex, neighbour_set};
+use hx_cells::each_cell;
 use hx_link::Kind;
 use hx_linkset::LinkSet;
 
@@ -50,12 +51,7 @@ fn push_bases_of(
     vertex: &Vertex,
     cells: Mask,
 ) -> Result<(), Memory> {
-    let mut rest = cells;
-    for _ in 0..CELLS as u8 {
-        let Some(cell) = rest.least(set.position().size()) else {
-            break;
-        };
-        rest = rest.without(cell);
+    for cell in each_cell(cells, set.position().size()) {
         push_base(set, candidates, vertex, &Vertex::Of(cell))?;
     }
     Ok(())
@@ -105,12 +101,7 @@ fn push_bases_of_stones(
     stones: Mask,
     empties: Mask,
 ) -> Result<(), Memory> {
-    let mut rest = stones;
-    for _ in 0..CELLS as u8 {
-        let Some(stone) = rest.least(set.position().size()) else {
-            break;
-        };
-        rest = rest.without(stone);
+    for stone in each_cell(stones, set.position().size()) {
         let stone = Vertex::Of(stone);
         let near = ends.reach(&stone).cells().meet(empties);
         push_bases_of(set, candidates, &stone, near)?;

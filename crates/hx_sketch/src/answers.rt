@@ -15,6 +15,7 @@ ghost use Rattle.hx_fill.specs.Musts.{IsMust};
 
 use crate::judged::{Judged, keep_judged};
 use hx_board::{CELLS, Cell, Colour, Mask, Memory, Position};
+use hx_cells::each_cell;
 use hx_fill::{Must, must, without_lines};
 use hx_inferior::Kill;
 use hx_linkset::LinkSet;
@@ -121,12 +122,7 @@ fn lines_for(
     let size = position.size();
     let mut lines = Vec::new(alloc);
     let mut child = 0u32;
-    let mut left = cells;
-    for _ in 0..CELLS {
-        let Some(cell) = left.least(size) else {
-            break;
-        };
-        left = left.without(cell);
+    for cell in each_cell(cells, size) {
         let line = line_for(under, cell, child);
         child = children_with(&line, child);
         if lines.push(line).is_err() {

@@ -3,7 +3,8 @@
 //! It is enough: where the player has these stones they are a chain, whatever else is on the board and whoever is to
 //! move.
 
-use hx_board::{CELLS, Colour, Mask, Position, chain};
+use hx_board::{Colour, Mask, Position, chain};
+use hx_cells::each_cell;
 use hx_zones::{Kind, Zone, Zones, placed};
 
 /// Whether these stones of a player have a chain, where all other cells are the opponent's.
@@ -20,12 +21,7 @@ fn has_chain(position: &Position, winner: Colour, own: Mask) -> bool {
 pub(crate) fn draft_chain(zones: &Zones, position: &Position, winner: Colour) {
     let size = position.size();
     let mut kept = position.stones(winner);
-    let mut left = kept;
-    for _ in 0..CELLS {
-        let Some(cell) = left.least(size) else {
-            break;
-        };
-        left = left.without(cell);
+    for cell in each_cell(kept, size) {
         if has_chain(position, winner, kept.without(cell)) {
             kept = kept.without(cell);
         }

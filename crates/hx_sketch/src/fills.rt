@@ -11,7 +11,8 @@
 //! those are tried first that fill a cell which the zone after fill-in needs. One of these may be right only behind
 //! another step of the winner's: where they are not right, all of the winner's steps are tried.
 
-use hx_board::{CELLS, Colour, Mask, Memory, Position};
+use hx_board::{Colour, Mask, Memory, Position};
+use hx_cells::each_cell;
 use hx_fill::Filled;
 use hx_inferior::{FillStep, fill_one};
 use hx_zones::{Kind, Zone, Zones, placed};
@@ -95,12 +96,7 @@ fn zone_before_steps(
         return None;
     }
     let mut kept = own;
-    let mut left = own.minus(needed);
-    for _ in 0..CELLS {
-        let Some(cell) = left.least(size) else {
-            break;
-        };
-        left = left.without(cell);
+    for cell in each_cell(own.minus(needed), size) {
         let tried = kept.without(cell);
         if are_right(position, winner, tried, free.minus(tried), steps) {
             kept = tried;

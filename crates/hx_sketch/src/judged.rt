@@ -8,7 +8,8 @@
 //! Stones are left out one after the other while the node stays right. Those that its children need stay, so that these
 //! are won there.
 
-use hx_board::{CELLS, Mask, Memory, Position, Size};
+use hx_board::{Mask, Memory, Position, Size};
+use hx_cells::each_cell;
 use hx_linkset::LinkSet;
 use hx_tree::{Heading, Line, Node, Rule, check_node};
 use hx_zones::{Kind, Zone, Zones, placed};
@@ -80,12 +81,7 @@ impl Judged {
             return Ok(None);
         }
         let mut kept = own;
-        let mut left = own.minus(needed);
-        for _ in 0..CELLS {
-            let Some(cell) = left.least(self.size) else {
-                break;
-            };
-            left = left.without(cell);
+        for cell in each_cell(own.minus(needed), self.size) {
             if self.is_right_with(alloc, kept.without(cell))? {
                 kept = kept.without(cell);
             }

@@ -5,6 +5,7 @@ ghost use Rattle.hx_walk.specs.Walks.{Keeps, MayHold, Stops};
 
 use crate::walks::Walk;
 use hx_board::{CELLS, Cell, Mask, Memory, Position};
+use hx_cells::each_cell;
 use hx_fill::{Must, must, must_without_lines, without_lines};
 use hx_io::Gate;
 use hx_known::{Known, Knows};
@@ -27,12 +28,7 @@ pub(crate) enum Answering {
 /// Adds cells to an order.
 fn add_cells(order: &mut Vec<Cell>, position: &Position, cells: Mask) -> Result<(), Memory> {
     let size = position.size();
-    let mut left = cells;
-    for _ in 0..CELLS {
-        let Some(cell) = left.least(size) else {
-            break;
-        };
-        left = left.without(cell);
+    for cell in each_cell(cells, size) {
         order.push(cell).map_err(|_| Memory)?;
     }
     Ok(())
@@ -113,12 +109,7 @@ impl<K: Knows, G: Gate, R: Wait> Walk<'_, K, G, R, Workspace, LinkSet> {
     {
         let size = situation.filled.position().size();
         let mut kept = cells;
-        let mut left = cells;
-        for _ in 0..CELLS {
-            let Some(cell) = left.least(size) else {
-                break;
-            };
-            left = left.without(cell);
+        for cell in each_cell(cells, size) {
             kept = self.without_proved(situation, kept, cell)?;
         }
         Ok(kept)

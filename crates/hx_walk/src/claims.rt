@@ -5,7 +5,8 @@ ghost use Rattle.hx_walk.specs.Walks.{Keeps, MayHold, Stops};
 
 use crate::answers::Answering;
 use crate::walks::Walk;
-use hx_board::{CELLS, Colour, Mask, Memory, Position, Size};
+use hx_board::{Colour, Mask, Memory, Position, Size};
+use hx_cells::each_cell;
 use hx_dfpn::{put, take_back};
 use hx_fill::{Fill, Filled};
 use hx_inferior::FillStep;
@@ -26,12 +27,7 @@ fn add_stones(
     opponent: Colour,
     cells: Mask,
 ) -> Result<(), Memory> {
-    let mut left = cells;
-    for _ in 0..CELLS {
-        let Some(cell) = left.least(size) else {
-            break;
-        };
-        left = left.without(cell);
+    for cell in each_cell(cells, size) {
         let fill = Fill {
             colour: opponent,
             step: FillStep::Dead(cell),

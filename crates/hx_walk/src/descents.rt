@@ -4,7 +4,8 @@ ghost use Rattle.std.specs.Prelude.{IfErr};
 ghost use Rattle.hx_walk.specs.Walks.{Keeps, MayHold, Stops};
 
 use crate::walks::{NO_LIMIT, Walk};
-use hx_board::{CELLS, Cell, Mask};
+use hx_board::{Cell, Mask};
+use hx_cells::each_cell;
 use hx_io::Gate;
 use hx_known::{Known, Knows};
 use hx_limits::RanOut;
@@ -84,12 +85,7 @@ impl<K: Knows, G: Gate, R: Wait> Walk<'_, K, G, R, Workspace, LinkSet> {
         let size = situation.filled.position().size();
         let mut best = None;
         let mut least = u64::MAX;
-        let mut left = cells;
-        for _ in 0..CELLS {
-            let Some(cell) = left.least(size) else {
-                break;
-            };
-            left = left.without(cell);
+        for cell in each_cell(cells, size) {
             let here = self.size_after(situation, cell);
             if here < least {
                 least = here;

@@ -21,6 +21,7 @@ use crate::widened::widened;
 use crate::wider::{end_of, store_wider};
 use hx_board::{CELLS, Cell, Colour, Mask, Position};
 use hx_book::Proofs;
+use hx_cells::each_cell;
 use hx_fill::{Must, must, without_lines};
 use hx_limits::RanOut;
 use hx_linkset::LinkSet;
@@ -168,11 +169,9 @@ fn store_each<P: Proofs, R: Wait>(
     ensures stopped { IfErr result (IsUnstored (P.sight proofs.new)) }
 {
     let size = position.size();
-    let mut left = cells;
-    while let Some(cell) = left.least(size) {
+    for cell in each_cell(cells, size) {
         let next = position.with(winner.other(), cell);
         store_wider(rt, alloc, proofs, &next, winner, winner)?;
-        left = left.without(cell);
     }
     Ok(())
 }

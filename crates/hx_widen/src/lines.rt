@@ -1,13 +1,15 @@
 //! The lines of a node at a widened position, in cell order.
 
 ghost use Rattle.std.specs.Prelude.{IfSome};
+ghost use Rattle.hx_board.specs.Positions.{IsEmpty};
 ghost use Rattle.hx_book.specs.Sights.{Grows};
 ghost use Rattle.hx_widen.specs.Inner.{AreKnown};
 
 use crate::known::Known;
 use crate::wider::store_wider;
-use hx_board::{CELLS, Cell, Colour, Mask, Memory, Position};
+use hx_board::{Cell, Colour, Mask, Memory, Position};
 use hx_book::Proofs;
+use hx_cells::each_cell;
 use hx_inferior::Kill;
 use hx_nodes::line_among;
 use hx_tree::{Heading, Line};
@@ -77,15 +79,11 @@ pub(crate) fn lines_at<P: Proofs, R: Wait>(
         AreKnown (P.sight proofs.new).list known.new.headings.items known.new.places.items) }
 {
     let size = wide.size();
-    let mut left = cells.meet(wide.empties());
-    let Ok(mut lines) = Vec::with_capacity(alloc, left.count() as usize) else {
+    let empties = cells.meet(wide.empties());
+    let Ok(mut lines) = Vec::with_capacity(alloc, empties.count() as usize) else {
         return None;
     };
-    for _ in 0..CELLS {
-        let Some(cell) = left.least(size) else {
-            break;
-        };
-        left = left.without(cell);
+    for cell in each_cell(empties, size) {
         let Some(line) = line_at(rt, alloc, proofs, known, wide, winner, under, cell) else {
             return None;
         };
@@ -96,7 +94,7 @@ pub(crate) fn lines_at<P: Proofs, R: Wait>(
     Some(lines)
 }
 
-/// The line of a cell.
+/// The line of an empty cell.
 fn line_at<P: Proofs, R: Wait>(
     rt: &R,
     alloc: Global,
@@ -107,17 +105,15 @@ fn line_at<P: Proofs, R: Wait>(
     under: &[Line],
     cell: Cell,
 ) -> Option<Line>
-    requires { AreKnown (P.sight proofs.old).list known.old.headings.items known.old.places.items }
+    requires empty { IsEmpty wide.now cell }
+    requires known { AreKnown (P.sight proofs.old).list
+        known.old.headings.items known.old.places.items }
     ensures grew { Grows (P.sight proofs.old) (P.sight proofs.new) }
     ensures known { IfSome result (λ _.
         AreKnown (P.sight proofs.new).list known.new.headings.items known.new.places.items) }
 {
     if let Some(line) = line_among(under, cell) {
         return Some(line);
-    }
-    let is_empty = wide.empties().has(cell);
-    if !is_empty {
-        return None;
     }
     let next = wide.with(winner.other(), cell);
     let Some(child) = know_next(rt, alloc, proofs, known, &next, winner) else {

@@ -15,6 +15,7 @@ ghost use Rattle.hx_widen.specs.Wide.{IsServedIf};
 use crate::known::{Known, store_known};
 use hx_board::{Colour, Mask, Memory, Position};
 use hx_book::{Proofs, Wider};
+use hx_cells::each_cell;
 use hx_inferior::FillStep;
 use hx_limits::RanOut;
 use hx_nodes::Stored;
@@ -96,12 +97,10 @@ fn others_on(
     let Ok(mut steps) = Vec::with_capacity(alloc, cells.count() as usize) else {
         return Err(Memory);
     };
-    let mut left = cells;
-    while let Some(cell) = left.least(size) {
+    for cell in each_cell(cells, size) {
         if steps.push(FillStep::Other(cell)).is_err() {
             return Err(Memory);
         }
-        left = left.without(cell);
     }
     Ok(steps)
 }

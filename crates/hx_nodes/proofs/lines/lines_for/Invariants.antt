@@ -1,4 +1,3 @@
-use Rattle.hx_board.specs.Sets.{count_below}
 use Rattle.hx_tree.specs.Trees.{headings_of}
 use Rattle.hx_book.specs.Sights.{Grows}
 use Rattle.hx_nodes.specs.Lines.{wins_next, AreGathered}
@@ -8,8 +7,5 @@ abbrev pub invariant-loop-cell : goal.invariant-loop-cell
 invariant-loop-cell g l = record {
   grew : Grows (g.P.Proofs.sight l.fn.proofs) (g.P.Proofs.sight l.proofs);
   gathered : AreGathered (headings_of (g.P.Proofs.sight l.proofs).list)
-      (wins_next l.fn.position l.fn.winner) l.fn.cells l.left l.fn.under l.lines.items;
+      (wins_next l.fn.position l.fn.winner) l.fn.cells l.cell-iterator.cells l.fn.under l.lines.items;
 }
-
-abbrev pub decreases-loop-cell : goal.decreases-loop-cell
-decreases-loop-cell g l = count_below 128 l.left

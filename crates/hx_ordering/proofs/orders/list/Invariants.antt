@@ -1,5 +1,5 @@
-use Rattle.hx_ordering.proofs.OrderLaws.{AreListed}
+use Rattle.std.proofs.Common.{◌≡◌}
 use Rattle.hx_ordering.proofs.orders.list.Given as goal
 
-abbrev pub invariant-loop : goal.invariant-loop
-invariant-loop l = AreListed l.fn.cells l.left l.found.items l.counter
+abbrev pub invariant-loop-cell : goal.invariant-loop-cell
+invariant-loop-cell l = l.found.items ≡ l.yielded

@@ -1,11 +1,11 @@
 use Rattle.hx_walk.proofs.WalkLaws.{keeps-itself, keeps-on, kept-may-hold}
 use Rattle.hx_walk.proofs.descents.Walk+K+G+R+Workspace+LinkSet.smallest.Goals as goal
 
-pub loop-init : goal.loop-init
-loop-init g c = keeps-itself _ c.args.self.now
+pub loop-cell-init : goal.loop-cell-init
+loop-cell-init g c = keeps-itself _ c.args.self.now
 
 pub size_after-here-requires : goal.size_after-here-requires
-size_after-here-requires g c = kept-may-hold _ _ _ _ c.loop.invariant c.requires
+size_after-here-requires g c = kept-may-hold _ _ _ _ c.loop-cell.invariant c.requires
 
-pub loop-preserved : goal.loop-preserved
-loop-preserved g c = keeps-on _ _ _ _ c.loop.invariant c.size_after-here.ensures.keeps
+pub loop-cell-preserved : goal.loop-cell-preserved
+loop-cell-preserved g c = keeps-on _ _ _ _ c.loop-cell.invariant c.size_after-here.ensures.keeps

@@ -1,5 +1,5 @@
 use Rattle.hx_walk.specs.Walks.{Keeps}
 use Rattle.hx_walk.proofs.wins.Walk+K+G+R+Workspace+LinkSet.won_by_any.Given as goal
 
-abbrev pub invariant-loop : goal.invariant-loop
-invariant-loop g l = Keeps g.K.Knows.view l.fn.self l.self
+abbrev pub invariant-loop-cell : goal.invariant-loop-cell
+invariant-loop-cell g l = Keeps g.K.Knows.view l.fn.self l.self
