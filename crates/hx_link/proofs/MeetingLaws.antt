@@ -3,7 +3,7 @@
 -- Two links whose ends are given in either order meet at one end at the most (`meets_once`, by the sixteen cases of the
 -- four orders). So two places have one meeting at the most (`met-same`), and what a rule says of some meeting holds of
 -- the one that was found: `stone-from` and `stone-to`, `cell-from` and `cell-to` go from the one to the other and back.
-use Rattle.std.proofs.Common.{◌≡◌, ◌≢◌, ℕ, List, refl, sym, ap, ◌∙◌, subst, inl, inr, Some, None, Option}
+use Rattle.std.proofs.Common.{◌≡◌, ◌≢◌, ℕ, List, refl, sym, ap, ◌∙◌, subst, inl, inr, ⊎_elim, Some, None, Option}
 use Rattle.std.proofs.lemmas.Option.{same_Some}
 use Rattle.std.specs.Prelude.{slice_get}
 use Rattle.hx_board.specs.declared.colours.Colour.{Colour}
@@ -19,7 +19,7 @@ use Rattle.hx_link.specs.declared.steps.Step.TheVariants.{AndStone, AndCell}
 use Rattle.hx_link.specs.declared.meetings.Meeting.{Meeting}
 use Rattle.hx_link.specs.declared.meetings.Met.{Met}
 use Rattle.hx_link.specs.Steps.{IsLink, HasEnds, GoesOver, GivesAndStone, GivesAndCell, StepGives}
-use Rattle.hx_link.specs.Named.{MeetIn, IsMade, IsMet, IsMiddle}
+use Rattle.hx_link.specs.Named.{MeetIn, IsMeetingAt, IsMade, IsMet, IsMiddle}
 use Rattle.hx_link.proofs.LinkLaws.{ends_differ}
 
 -- two links share at most one end
@@ -41,6 +41,26 @@ meets_once f s x z y x' z' y' (inr a) (inr b) d (inl a') (inl b') d' = absurd (d
 meets_once f s x z y x' z' y' (inr a) (inr b) d (inl a') (inr b') d' = (cc, cc, cc)
 meets_once f s x z y x' z' y' (inr a) (inr b) d (inr a') (inl b') d' = (cc, cc, cc)
 meets_once f s x z y x' z' y' (inr a) (inr b) d (inr a') (inr b') d' = (cc, cc, cc)
+
+-- how two links meet is how the one meets the other at one of its ends, seen from the other end
+pub meets-at_one : (f s : Link) (o : Option Meeting) → ((m : Meeting) → IsMeetingAt f.a f.b s m → ⊥)
+    → Finds o (IsMeetingAt f.b f.a s) → Finds o (MeetIn f s)
+meets-at_one f s None none none' = λ m meet. ⊎_elim
+    (λ (at : (f.a ≡ m.from) × (f.b ≡ m.middle)). none m (at_end (sym at.0) (sym at.1) meet))
+    (λ (at : (f.a ≡ m.middle) × (f.b ≡ m.from)). none' m (at_end (sym at.1) (sym at.0) meet)) meet.first_ends
+  where
+    at_end : {x y : Vertex} {m : Meeting} → m.from ≡ x → m.middle ≡ y → MeetIn f s m → IsMeetingAt x y s m
+    at_end from middle meet = record {
+      from_is = from;
+      middle_is = middle;
+      second_ends = rw (sym middle) meet.second_ends;
+      other_ends_differ = rw (sym from) meet.other_ends_differ;
+    }
+meets-at_one f s (Some m) none at = record {
+  first_ends = inr (sym at.middle_is, sym at.from_is);
+  second_ends = rw at.middle_is at.second_ends;
+  other_ends_differ = rw at.from_is at.other_ends_differ;
+}
 
 met_eq : (f f' s s' : Link) (x x' z z' y y' : Vertex) → f ≡ f' → s ≡ s' → x ≡ x' → z ≡ z' → y ≡ y'
     → (let m : Met = record { first = f; second = s; at = record { from = x; middle = z; to = y } } in m) ≡ record {

@@ -29,6 +29,13 @@ pub record MeetIn (first second : Link) (meeting : Meeting) : Type 0 where
   pub second_ends : HasEnds second meeting.middle meeting.to
   pub other_ends_differ : meeting.from ≢ meeting.to
 
+-- a link between two ends shares exactly the second of them with another one
+pub record IsMeetingAt (from middle : Vertex) (second : Link) (meeting : Meeting) : Type 0 where
+  pub from_is : meeting.from ≡ from
+  pub middle_is : meeting.middle ≡ middle
+  pub second_ends : HasEnds second middle meeting.to
+  pub other_ends_differ : from ≢ meeting.to
+
 -- a Full link is at the place
 pub record IsFullAt (before : List Link) (place : ℕ) (link : Link) : Type 0 where
   pub there : slice_get before place ≡ Some link

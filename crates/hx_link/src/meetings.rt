@@ -1,7 +1,7 @@
 //! How two earlier links meet, which both And rules ask first: at exactly one end, and nowhere else.
 
 ghost use Rattle.hx_board.specs.Finds.{Finds};
-ghost use Rattle.hx_link.specs.Named.{MeetIn, IsFullAt, IsMet};
+ghost use Rattle.hx_link.specs.Named.{MeetIn, IsMeetingAt, IsFullAt, IsMet};
 
 use crate::links::{Kind, Link};
 use hx_board::Vertex;
@@ -22,40 +22,37 @@ pub(crate) struct Met {
     pub(crate) at: Meeting,
 }
 
+/// How a link between two ends meets another one at the second of them, and nowhere else.
+#[inline(always)]
+fn meeting_at(from: &Vertex, middle: &Vertex, second: &Link) -> Option<Meeting>
+    ensures { Finds result (IsMeetingAt from.now middle.now second.now) }
+{
+    if second.a == *middle && second.b != *from {
+        return Some(Meeting {
+            from: *from,
+            middle: *middle,
+            to: second.b,
+        });
+    }
+    if second.b == *middle && second.a != *from {
+        return Some(Meeting {
+            from: *from,
+            middle: *middle,
+            to: second.a,
+        });
+    }
+    None
+}
+
 /// The one end that two links share. None where they share none or both.
 #[inline(always)]
 fn meeting_of(first: &Link, second: &Link) -> Option<Meeting>
     ensures { Finds result (MeetIn first.now second.now) }
 {
-    if first.b == second.a && first.a != second.b {
-        return Some(Meeting {
-            from: first.a,
-            middle: first.b,
-            to: second.b,
-        });
+    match meeting_at(&first.a, &first.b, second) {
+        Some(meeting) => Some(meeting),
+        None => meeting_at(&first.b, &first.a, second),
     }
-    if first.b == second.b && first.a != second.a {
-        return Some(Meeting {
-            from: first.a,
-            middle: first.b,
-            to: second.a,
-        });
-    }
-    if first.a == second.a && first.b != second.b {
-        return Some(Meeting {
-            from: first.b,
-            middle: first.a,
-            to: second.b,
-        });
-    }
-    if first.a == second.b && first.b != second.a {
-        return Some(Meeting {
-            from: first.b,
-            middle: first.a,
-            to: second.a,
-        });
-    }
-    None
 }
 
 /// The earlier Full link at a place.
