@@ -17,7 +17,7 @@ cells-reordered board empties sorted cells is listed moved = record {
         let among = Contains-permutation cells sorted cell (IsPermutation-sym sorted cells moved) at in
         (is cell).0 (All-contains (IsCellOf board.size empties) sorted cell listed.each among).member),
     (λ empty.
-        let is_cell = record { on_board = empty.on_board; member = (is cell).1 empty } in
+        let is_cell : IsCellOf board.size empties cell = record { on_board = empty.on_board; member = (is cell).1 empty } in
         Contains-permutation sorted cells cell moved (listed.all cell is_cell)),
   );
   in_cell_order = sorted;

@@ -1,5 +1,5 @@
 -- The empty cells of a board, in a list.
-use Rattle.std.specs.Prelude.{◌↔◌, ℕ, List, Contains}
+use Rattle.std.specs.Prelude.{ℕ, ◌↔◌, List, Contains}
 use Rattle.std.specs.List.Sorted.{IsStrictlyIncreasing, IsPermutation}
 use Rattle.hx_board.specs.Positions.{Board, IsEmpty}
 
