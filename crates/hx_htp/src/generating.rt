@@ -10,6 +10,7 @@ ghost use Rattle.hx_htp.specs.Parts.{IsPassed};
 
 use crate::answerers::{Answerer, Told};
 use hx_board::{Cell, Colour, Memory, Position};
+use hx_cells::each_cell;
 use std::sync::Wait;
 use std::thread::Threads;
 
@@ -34,9 +35,7 @@ pub(crate) fn generate<R: Threads + Wait + Sync, A: Answerer>(
     if names(told, player.other()) {
         return Ok(first);
     }
-    let mut left = position.empties();
-    while let Some(cell) = left.least(size) {
-        left = left.without(cell);
+    for cell in each_cell(position.empties(), size) {
         match keeps_win(rt, position, player, cell, answerer) {
             Ok(true) => return Ok(cell),
             Ok(false) => {}

@@ -10,6 +10,7 @@ ghost use Rattle.hx_board.specs.Sets.{has};
 ghost use Rattle.hx_survey.specs.Orders.{IsAmong};
 
 use hx_board::{Cell, Mask, Size};
+use hx_cells::each_cell;
 
 /// An order of cells.
 #[derive(Clone, Copy)]
@@ -45,12 +46,10 @@ fn middlemost(size: Size, cells: Mask) -> Option<Cell>
     // The proof takes from here that the board is one, so that its cells are below 128.
     let _rows = size.rows();
     let mut middlemost = cells.least(size)?;
-    let mut left = cells.without(middlemost);
-    while let Some(cell) = left.least(size) {
+    for cell in each_cell(cells.without(middlemost), size) {
         if from_middle(size, cell) < from_middle(size, middlemost) {
             middlemost = cell;
         }
-        left = left.without(cell);
     }
     Some(middlemost)
 }

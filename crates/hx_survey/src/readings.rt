@@ -12,6 +12,7 @@ ghost use Rattle.hx_survey.specs.Readings.{marked, IsUnlisted, IsOpen, HasOpen, 
 use crate::openings::opening;
 use crate::tables::Table;
 use hx_board::{Cell, Colour, Mask, Position, Size};
+use hx_cells::each_cell;
 use hx_book::Book;
 use hx_share::book_names_winners;
 use hx_sweep::{is_small, winner};
@@ -22,13 +23,11 @@ pub(crate) fn table_of(size: Size, budget: u64, book: &Book) -> Option<Table>
     ensures { MatchOption result (HasOpen book.now.nodes size budget) (IsTable size) }
 {
     let mut black = Mask::empty();
-    let mut left = size.all();
-    while let Some(cell) = left.least(size) {
+    for cell in each_cell(size.all(), size) {
         let Some(winner) = winner_after(size, budget, book, cell) else {
             return None;
         };
         black = marked(black, cell, winner);
-        left = left.without(cell);
     }
     Some(Table::new(size, black))
 }

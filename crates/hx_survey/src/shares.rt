@@ -6,6 +6,7 @@ ghost use Rattle.hx_survey.specs.Shares.{place_of, IsInShare, IsShare};
 
 use crate::openings::Openings;
 use hx_board::{Cell, Mask, Size};
+use hx_cells::each_cell;
 
 impl Openings {
     /// The share of worker w of n: of all openings in cell order, counted from 0, those at the places w, w + n, w + 2n
@@ -14,12 +15,10 @@ impl Openings {
         ensures { IsShare self.now.size self.now.workers worker result }
     {
         let mut share = Mask::empty();
-        let mut left = self.size.all();
-        while let Some(cell) = left.least(self.size) {
+        for cell in each_cell(self.size.all(), self.size) {
             if self.is_in_share(worker, cell) {
                 share = share.with(cell);
             }
-            left = left.without(cell);
         }
         share
     }

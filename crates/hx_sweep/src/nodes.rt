@@ -25,6 +25,7 @@ ghost use Rattle.hx_sweep.specs.Growth.{IsBegun, HasMoreNodes, IsProved};
 
 use crate::winners::winning_move;
 use hx_board::{Cell, Colour, Memory, Position, chain};
+use hx_cells::each_cell;
 use hx_tree::{Heading, Line, Lines, Node, Rule, Steps, Threats};
 
 /// Adds the nodes of a proof that the winner wins the position with this mover, and tells the number of the last, which
@@ -111,14 +112,12 @@ fn answers(
 {
     let size = position.size();
     let mut lines = Vec::new(*nodes.allocator());
-    let mut left = position.empties();
-    while let Some(cell) = left.least(size) {
+    for cell in each_cell(position.empties(), size) {
         let child = after(nodes, position, winner.other(), cell, winner)?;
         // A slice of one line: the prover does not follow a `push` of a value that may hold a `Kill` of hx_inferior,
         // since this crate names no line but Child.
         let line = [Line::Child { cell, child }];
         lines.extend_from_slice(&line).map_err(|_| Memory)?;
-        left = left.without(cell);
     }
     Ok(lines)
 }

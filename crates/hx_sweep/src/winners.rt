@@ -10,6 +10,7 @@ ghost use Rattle.hx_board.specs.Game.{Wins};
 ghost use Rattle.hx_sweep.specs.Tries.{IsRefuted, IsFirstWinningMove};
 
 use hx_board::{Cell, Colour, Position, chain};
+use hx_cells::each_cell;
 
 /// Who wins the position with this mover, by trying all moves. It takes no memory, and as long as a full search. The
 /// position is as it was.
@@ -41,15 +42,13 @@ pub(crate) fn winning_move(position: &mut Position, to_move: Colour) -> Option<C
         (IsFirstWinningMove position.old to_move) }
 {
     let size = position.size();
-    let mut left = position.empties();
-    while let Some(cell) = left.least(size) {
+    for cell in each_cell(position.empties(), size) {
         position.play(to_move, cell);
         let found = winner(position, to_move.other());
         position.lift(cell);
         if found == to_move {
             return Some(cell);
         }
-        left = left.without(cell);
     }
     None
 }

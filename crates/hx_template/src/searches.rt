@@ -20,6 +20,7 @@ ghost use Rattle.hx_template.specs.Entries.{HasVertices, AreRight, SecuredIn, Is
 use crate::games::LocalGame;
 use crate::reaches::joined_in;
 use hx_board::{Cell, Colour, Position};
+use hx_cells::each_cell;
 
 /// What was found of a filling: whether the player of the game secures the vertices, with this player to move.
 #[derive(Clone, Copy, Debug, PartialEq, Eq)]
@@ -109,14 +110,12 @@ fn some_move(
         (SecuredIn game.now (put position.now to_move cell) (other_of to_move)) }
 {
     let size = position.size();
-    let mut left = game.carrier.meet(position.empties());
-    while let Some(cell) = left.least(size) {
+    for cell in each_cell(game.carrier.meet(position.empties()), size) {
         let next = position.with(to_move, cell);
         let later = number_after(game, position, number, to_move, cell);
         if secures(game, table, &next, later, to_move.other()) == wanted {
             return true;
         }
-        left = left.without(cell);
     }
     false
 }

@@ -4,11 +4,10 @@ use Rattle.hx_board.specs.Cells.{IsLeastOn}
 use Rattle.hx_board.specs.Colours.{other_of}
 use Rattle.hx_board.specs.Counts.{empty_count}
 use Rattle.hx_board.specs.Positions.{Board}
-use Rattle.hx_board.proofs.CellLaws.{on_board-small}
 use Rattle.hx_board.proofs.StoneLaws.{held-put}
 use Rattle.hx_board.proofs.EmptyCells.{empty_count-put, empties-count, sweep_size-positive}
-use Rattle.hx_board.proofs.Tallies.{count_below-remove}
 use Rattle.hx_board.proofs.ColourLaws.{other-other}
+use Rattle.hx_cells.proofs.StillLeft.{cells-left}
 use Rattle.hx_tree.specs.declared.nodes.Node.{Node}
 use Rattle.hx_tree.specs.declared.nodes.Line.{Line}
 use Rattle.hx_tree.specs.declared.nodes.Line.TheVariants.{Child}
@@ -32,8 +31,8 @@ after-lift-requires t c = rw (c.prove-child.ensures.kept, c.play.ensures) (held-
 pub answers-loop-cell-init : goal.answers-loop-cell-init
 answers-loop-cell-init t c = record {
   kept = refl;
-  answered = rw c.new-lines.ensures.items
-      (none_answered _ _ _ c.empties-left.ensures (empties-count _ _ c.requires.begun.valid c.empties-left.ensures));
+  answered = rw (c.into_iter-cell-iterator.ensures.into_iter_gives, c.each_cell-cell-items.ensures.left, c.new-lines.ensures.items)
+      (none_answered _ _ _ c.empties.ensures (empties-count _ _ c.requires.begun.valid c.empties.ensures));
   grown = grown_none _ _ _ c.requires.begun;
 }
 
@@ -43,7 +42,10 @@ answers-after-requires t c =
     let kept : c.loop-cell.position ≡ board = c.loop-cell.invariant.kept in
     let same = ap empty_count kept in
     let before = c.loop-cell.invariant.answered in
-    let least : IsLeastOn board.size c.loop-cell.left c.in-Some.cell = rw c.size-size.ensures.value at c.in-Some.ensures in
+    let left = cells-left c.size-size.result _ c.loop-cell.yielded
+    (c.into_iter-cell-iterator.ensures.into_iter_gives ∙ c.each_cell-cell-items.ensures.left) c.loop-cell.yielded_by in
+    let least : IsLeastOn board.size c.loop-cell.cell-iterator.cells c.in-Some.cell =
+    rw (left.size, c.size-size.ensures.value) at c.in-Some.ensures.steps.least in
     let empty = before.inside c.in-Some.cell least.member in
     let wins = (answers_all board c.args.winner _ refl c.requires.no_chain c.requires.wins).all c.in-Some.cell empty in
     let room = moves_room (empty_count board) _ (fewer_answered _ _ _ _ _ c.requires.begun.valid before least) in
@@ -51,18 +53,14 @@ answers-after-requires t c =
     (omega arith) in
     (omega arith, rw (kept, c.other.ensures, other-other c.args.winner) (c.requires.begun.valid, (empty, (wins, begun))))
 
-pub answers-loop-cell-smaller : goal.answers-loop-cell-smaller
-answers-loop-cell-smaller t c =
-    let extent = rw (← c.size-size.ensures.value) at c.requires.begun.valid.0 in
-    let small : c.in-Some.cell < 121 = on_board-small c.size-size.result c.in-Some.cell extent c.in-Some.ensures.on_board in
-    rw c.without-left.ensures.set
-    (omega (arith, count_below-remove 128 c.loop-cell.left c.in-Some.cell c.in-Some.ensures.member (omega arith)))
-
 pub answers-loop-cell-preserved : goal.answers-loop-cell-preserved
 answers-loop-cell-preserved t c =
     let board : Board = c.args.position.now in
     let before = c.loop-cell.invariant.answered in
-    let least : IsLeastOn board.size c.loop-cell.left c.in-Some.cell = rw c.size-size.ensures.value at c.in-Some.ensures in
+    let left = cells-left c.size-size.result _ c.loop-cell.yielded
+    (c.into_iter-cell-iterator.ensures.into_iter_gives ∙ c.each_cell-cell-items.ensures.left) c.loop-cell.yielded_by in
+    let least : IsLeastOn board.size c.loop-cell.cell-iterator.cells c.in-Some.cell =
+    rw (left.size, c.size-size.ensures.value) at c.in-Some.ensures.steps.least in
     let empty = before.inside c.in-Some.cell least.member in
     let proved = rw (c.loop-cell.invariant.kept, c.other.ensures, other-other c.args.winner) at c.in_ok-child.ensures.proved in
     let line : Line = Child c.in-Some.cell c.in_ok-child.child in
@@ -70,7 +68,7 @@ answers-loop-cell-preserved t c =
     let lines : List Line = c.loop-cell.lines.items in
     record {
       kept = c.after.ensures.kept ∙ c.loop-cell.invariant.kept;
-      answered = rw (pushed, c.without-left.ensures.set)
+      answered = rw (pushed, c.in-Some.ensures.steps.cells)
           (answered_on board c.args.winner _ _ _ _ _ _ c.requires.begun.valid before least proved);
       grown =
           rw pushed
@@ -87,9 +85,11 @@ answers-returns-clause-grown t c =
 pub answers-returns-clause-right : goal.answers-returns-clause-right
 answers-returns-clause-right t c =
     let answered = answers_all c.args.position.now c.args.winner _ refl c.requires.no_chain c.requires.wins in
+    let left = cells-left c.size-size.result _ c.loop-cell.yielded
+    (c.into_iter-cell-iterator.ensures.into_iter_gives ∙ c.each_cell-cell-items.ensures.left) c.loop-cell.yielded_by in
     right_by_lines _ _ _ answered.some refl answered.some_empty
     (all_answered _ _ _ _ c.loop-cell.invariant.answered
-    (rw c.size-size.ensures.value at c.in_default.ensures)) c.loop-cell.invariant.answered.lines_right
+    (rw (left.size, c.size-size.ensures.value) at c.in-None.ensures.steps.none)) c.loop-cell.invariant.answered.lines_right
 
 pub answers-returns-clause-children : goal.answers-returns-clause-children
 answers-returns-clause-children t c =

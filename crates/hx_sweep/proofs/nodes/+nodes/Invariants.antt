@@ -1,7 +1,6 @@
 -- A stone leaves one empty cell less; at each position the four functions call one another in the order prove, rule,
 -- answers, after.
 use Rattle.std.proofs.Common.{◌≡◌, ◌+◌, ◌-◌, ◌*◌, length}
-use Rattle.hx_board.specs.Sets.{count_below}
 use Rattle.hx_board.specs.Counts.{empty_count, sweep_size}
 use Rattle.hx_tree.specs.Trees.{headings_of}
 use Rattle.hx_board.specs.Colours.{other_of}
@@ -25,10 +24,7 @@ decreases-after l = 4 * empty_count l.position.now
 abbrev pub invariant-answers-loop-cell : goal.invariant-answers-loop-cell
 invariant-answers-loop-cell l = record {
   kept : l.position ≡ l.fn.position;
-  answered : AreAnsweredSoFar (headings_of l.nodes.items) (heading_of l.fn.position (other_of l.winner) l.winner) l.left l.lines.items;
+  answered : AreAnsweredSoFar (headings_of l.nodes.items) (heading_of l.fn.position (other_of l.winner) l.winner) l.cell-iterator.cells l.lines.items;
   grown : HasMoreNodes l.fn.position.size
       (length l.lines.items * sweep_size (empty_count l.fn.position - 1)) l.fn.nodes.items l.nodes.items;
 }
-
-abbrev pub decreases-answers-loop-cell : goal.decreases-answers-loop-cell
-decreases-answers-loop-cell l = count_below 128 l.left

@@ -1,13 +1,15 @@
-use Rattle.std.proofs.Common.{◌≡◌, ℕ, ◌<◌, true, false, refl, sym, ap, ◌∙◌, arith}
+use Rattle.std.proofs.Common.{rules, ◌≡◌, ℕ, ◌<◌, true, false, not, refl, sym, ap, ◌∙◌, arith, ⊎_elim}
 use Rattle.std.proofs.lemmas.Bool.{false≢true}
 use Rattle.hx_board.specs.Sets.{has, ShareOne}
 use Rattle.hx_board.specs.Counts.{empty_count}
 use Rattle.hx_board.specs.Positions.{put}
-use Rattle.hx_board.proofs.CellLaws.{on_board-small}
+use Rattle.hx_board.specs.Colours.{other_of}
 use Rattle.hx_board.proofs.EmptyCells.{empty_count-put}
-use Rattle.hx_board.proofs.Tallies.{count_below-remove}
+use Rattle.hx_board.proofs.SetLaws.{has-remove_before, removed_cases}
+use Rattle.hx_cells.proofs.StillLeft.{cells-left}
 use Rattle.hx_law.specs.Play.{IsFree, By_goal}
 use Rattle.hx_proof.specs.Local.{IsJoined}
+use Rattle.hx_template.specs.Entries.{SecuredIn, IsSo}
 use Rattle.hx_template.proofs.FillingLaws.{filling-put}
 use Rattle.hx_template.proofs.LocalCases.{none_free, found, not_found}
 use Rattle.hx_template.proofs.EntryLaws.{number_small, place, entry_more}
@@ -78,7 +80,7 @@ secures-returns-clause-table t c =
 pub some_move-secures-requires : goal.some_move-secures-requires
 some_move-secures-requires t c =
     let game = c.args.game.now in
-    let free = c.loop-cell.invariant.free c.in-Some.cell c.in-Some.ensures.member in
+    let free = c.loop-cell.invariant.free c.in-Some.cell c.in-Some.ensures.steps.least.member in
     let fewer = empty_count-put c.args.position.now c.args.to_move c.in-Some.cell c.requires.filling.valid free.empty in
     let same : empty_count c.with-next.result ≡ empty_count (put c.args.position.now c.args.to_move c.in-Some.cell) =
     ap empty_count c.with-next.ensures in
@@ -94,12 +96,24 @@ some_move-secures-requires t c =
       ),
     )
 
-pub some_move-loop-cell-smaller : goal.some_move-loop-cell-smaller
-some_move-loop-cell-smaller t c =
-    let extent = rw (← c.size-size.ensures.value) at c.size-size.ensures.valid.0 in
-    let small : c.in-Some.cell < 121 = on_board-small c.size-size.result c.in-Some.cell extent c.in-Some.ensures.on_board in
-    rw c.without-left.ensures.set (omega (
-      arith,
-      count_below-remove 128 c.loop-cell.left c.in-Some.cell c.in-Some.ensures.member
-          (omega arith),
-    ))
+pub some_move-loop-cell-preserved : goal.some_move-loop-cell-preserved
+some_move-loop-cell-preserved t c =
+    let now = c.loop-cell.invariant in
+    let first = c.in-Some.ensures.steps in
+    let here : IsSo (not c.args.wanted) (SecuredIn c.args.game.now (put c.args.position.now c.args.to_move c.in-Some.cell)
+        (other_of c.args.to_move)) = search rules in
+    record {
+      table = search rules;
+      free = λ n h. now.free n (has-remove_before _ c.in-Some.cell n (rw first.cells at h));
+      tried = λ n free out. ⊎_elim
+          (λ (same : n ≡ c.in-Some.cell). rw same here)
+          (λ before. now.tried n free before)
+          (removed_cases _ c.in-Some.cell n (rw first.cells at out));
+    }
+
+pub some_move-returns-clause-none : goal.some_move-returns-clause-none
+some_move-returns-clause-none t c =
+    let left = cells-left c.size-size.result _ c.loop-cell.yielded
+    (c.into_iter-cell-iterator.ensures.into_iter_gives ∙ c.each_cell-cell-items.ensures.left) c.loop-cell.yielded_by in
+    λ no cell free. c.loop-cell.invariant.tried cell free
+        (c.in-None.ensures.steps.none cell (rw (left.size, c.size-size.ensures.value) free.empty.on_board))

@@ -1,9 +1,9 @@
--- A move leaves one empty cell less, and each turn of the loop one cell less to try. The cells that are left are free,
--- and no move to another free cell leads to what is wanted.
+-- A move leaves one empty cell less. The cells that are left to try are free, and no move to another free cell leads to
+-- what is wanted.
 use Rattle.std.proofs.Common.{◌≡◌, ℕ, ◌+◌, ◌*◌, true, false, not}
 use Rattle.hx_board.specs.Colours.{other_of}
 use Rattle.hx_board.specs.Positions.{put}
-use Rattle.hx_board.specs.Sets.{has, count_below}
+use Rattle.hx_board.specs.Sets.{has}
 use Rattle.hx_board.specs.Counts.{empty_count}
 use Rattle.hx_law.specs.Play.{IsFree}
 use Rattle.hx_template.specs.Entries.{AreRight, SecuredIn, IsSo}
@@ -21,10 +21,7 @@ decreases-some_move l = 3 * empty_count l.position.now
 abbrev pub invariant-some_move-loop-cell : goal.invariant-some_move-loop-cell
 invariant-some_move-loop-cell l = record {
   table : AreRight l.game l.table;
-  free : (cell : ℕ) → has l.left cell ≡ true → IsFree (has l.game.carrier) l.position cell;
-  tried : (cell : ℕ) → IsFree (has l.game.carrier) l.position cell → has l.left cell ≡ false
+  free : (cell : ℕ) → has l.cell-iterator.cells cell ≡ true → IsFree (has l.game.carrier) l.position cell;
+  tried : (cell : ℕ) → IsFree (has l.game.carrier) l.position cell → has l.cell-iterator.cells cell ≡ false
       → IsSo (not l.wanted) (SecuredIn l.game (put l.position l.to_move cell) (other_of l.to_move));
 }
-
-abbrev pub decreases-some_move-loop-cell : goal.decreases-some_move-loop-cell
-decreases-some_move-loop-cell l = count_below 128 l.left
