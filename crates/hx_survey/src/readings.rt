@@ -12,8 +12,8 @@ ghost use Rattle.hx_survey.specs.Readings.{marked, IsUnlisted, IsOpen, HasOpen, 
 use crate::openings::opening;
 use crate::tables::Table;
 use hx_board::{Cell, Colour, Mask, Position, Size};
-use hx_cells::each_cell;
 use hx_book::Book;
+use hx_cells::each_cell;
 use hx_share::book_names_winners;
 use hx_sweep::{is_small, winner};
 use hx_turn::{turned, turned_keeps};

@@ -72,4 +72,4 @@ winning_move-returns-clause-first t c =
     let left = cells-left c.size-size.result _ c.loop-cell.yielded
     (c.into_iter-cell-iterator.ensures.into_iter_gives ∙ c.each_cell-cell-items.ensures.left) c.loop-cell.yielded_by in
     λ cell empty. c.loop-cell.invariant.refuted cell empty
-        (c.in-None.ensures.steps.none cell (rw (left.size, c.size-size.ensures.value) empty.on_board))
+    (c.in-None.ensures.steps.none cell (rw (left.size, c.size-size.ensures.value) empty.on_board))

@@ -101,7 +101,7 @@ some_move-loop-cell-preserved t c =
     let now = c.loop-cell.invariant in
     let first = c.in-Some.ensures.steps in
     let here : IsSo (not c.args.wanted) (SecuredIn c.args.game.now (put c.args.position.now c.args.to_move c.in-Some.cell)
-        (other_of c.args.to_move)) = search rules in
+    (other_of c.args.to_move)) = search rules in
     record {
       table = search rules;
       free = λ n h. now.free n (has-remove_before _ c.in-Some.cell n (rw first.cells at h));
@@ -116,4 +116,4 @@ some_move-returns-clause-none t c =
     let left = cells-left c.size-size.result _ c.loop-cell.yielded
     (c.into_iter-cell-iterator.ensures.into_iter_gives ∙ c.each_cell-cell-items.ensures.left) c.loop-cell.yielded_by in
     λ no cell free. c.loop-cell.invariant.tried cell free
-        (c.in-None.ensures.steps.none cell (rw (left.size, c.size-size.ensures.value) free.empty.on_board))
+    (c.in-None.ensures.steps.none cell (rw (left.size, c.size-size.ensures.value) free.empty.on_board))
