@@ -1,5 +1,5 @@
 -- The rows of a block: what is read off them when the cells of a set are gone through, the lowest one first.
-use Rattle.std.proofs.Common.{◌≡◌, ◌≢◌, ℕ, ◌+◌, ◌*◌, ◌-◌, ◌/◌, ◌%◌, ◌^◌, ◌<◌, ◌≤◌, true, List, length, bit_or, bit_and, eqb, sym, ap}
+use Rattle.std.proofs.Common.{◌≡◌, ◌≢◌, ℕ, ◌+◌, ◌*◌, ◌-◌, ◌/◌, ◌%◌, ◌^◌, ◌<◌, ◌≤◌, true, List, length, bit_or, bit_and, bit_xor, eqb, sym, ap}
 use Rattle.std.proofs.Common.{◌∙◌, subst, inl, inr, ◌⊎◌, ⊎_elim, arith}
 use Rattle.std.proofs.Math.ListN.{set}
 use Rattle.std.proofs.lemmas.Bool.{false≢true, cases_eq}
@@ -56,9 +56,13 @@ entered-none rows number first cells count = record {
   entered = λ n h. inl h;
 }
 
-bit_or-insert : (row number : ℕ) → number < 64 → bit_or row (1 * 2 ^ number % 2 ^ 64) ≡ insert row number
+pub bit_or-insert : (row number : ℕ) → number < 64 → bit_or row (1 * 2 ^ number % 2 ^ 64) ≡ insert row number
 unfolding insert
 bit_or-insert row number small = ap (λ (x : ℕ). bit_or row x) (one_shl number 64 small)
+
+pub bit_xor-remove : (row number : ℕ) → number < 64 → bit_xor row (bit_and row (1 * 2 ^ number % 2 ^ 64)) ≡ remove row number
+unfolding remove
+bit_xor-remove row number small = ap (λ (x : ℕ). bit_xor row (bit_and row x)) (one_shl number 64 small)
 
 module _ (before after : List ℕ) (number first cells left cell : ℕ) (inside : first + cell < 128)
     (e : EnteredBut before after number first cells left) where

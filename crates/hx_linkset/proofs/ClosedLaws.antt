@@ -1,10 +1,10 @@
 -- The pass down: where what the last marked step names is marked too, the marks are closed from its place on, since a
 -- step names links that stand before it.
 use Rattle.std.proofs.Common.{◌≡◌, ℕ, zero, suc, ◌<◌, ◌≤◌, List, [], ◌∷◌, length, take, sym, ap, ◌∙◌, subst, inl, inr, Some, ◌⊎◌, ⊎_elim}
-use Rattle.std.proofs.Common.{arith}
+use Rattle.std.proofs.Common.{refl, get_or, arith}
 use Rattle.std.specs.Prelude.{slice_get}
 use Rattle.std.proofs.lemmas.Bool.{cases_eq, cases_lt}
-use Rattle.std.proofs.lemmas.Option.{same_Some}
+use Rattle.std.proofs.lemmas.Option.{same_Some, slice_get_read}
 use Rattle.hx_board.specs.declared.colours.Colour.{Colour}
 use Rattle.hx_board.specs.Lists.{StandsIn}
 use Rattle.hx_link.specs.declared.steps.Step.{Step}
@@ -30,6 +30,13 @@ module _ (player : Colour) (state : State) (r : IsRight player state) where
       let w = g.from_live part named in
       let at = get-take place state.links part w.0 w.1.0 in
       (at.0, (w.0, (at.1, w.1.1)))
+
+  -- the step of a marked link, as it is read
+  pub marked-step : (marks : List ℕ) → length marks ≡ length state.links → (place : ℕ) → IsMarked marks place → (step : Step)
+      → step ≡ get_or state.steps place step → slice_get state.steps place ≡ Some step
+  marked-step marks long place marked step read =
+      let inside : place < length state.steps = omega (arith, marked-inside marks place marked, long, r.steps_of) in
+      slice_get_read state.steps (length state.steps) place step refl inside read
 
   module _ (named old marks : List ℕ) (none : AreUnmarked (length state.links) old) (m : MarksMore (StandsIn named) old marks)
       (live : (place : ℕ) → StandsIn named place → IsLiveAt state.board player state.links place) where

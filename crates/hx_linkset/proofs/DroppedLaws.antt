@@ -16,13 +16,13 @@ use Rattle.hx_linkset.proofs.PassLaws.{reverse-first}
 
 -- ---- membership
 
-in-front : (xs ys : List ℕ) (place : ℕ) → IsIn xs place → IsIn (xs ++ ys) place
+pub in-front : (xs ys : List ℕ) (place : ℕ) → IsIn xs place → IsIn (xs ++ ys) place
 in-front xs ys place k = list_any-append (eqb place) xs ys ∙ or_left _ _ k
 
-in-back : (xs ys : List ℕ) (place : ℕ) → IsIn ys place → IsIn (xs ++ ys) place
+pub in-back : (xs ys : List ℕ) (place : ℕ) → IsIn ys place → IsIn (xs ++ ys) place
 in-back xs ys place k = list_any-append (eqb place) xs ys ∙ or_right _ _ k
 
-in-either : {P : Type 0} (xs ys : List ℕ) (place : ℕ) → (IsIn xs place → P) → (IsIn ys place → P) → IsIn (xs ++ ys) place → P
+pub in-either : {P : Type 0} (xs ys : List ℕ) (place : ℕ) → (IsIn xs place → P) → (IsIn ys place → P) → IsIn (xs ++ ys) place → P
 in-either xs ys place f g k = ⊎_elim f g (or_cases _ _ (sym (list_any-append (eqb place) xs ys) ∙ k))
 
 pub in-drop : (n : ℕ) (xs : List ℕ) (place : ℕ) → IsIn (drop n xs) place → IsIn xs place
@@ -35,7 +35,7 @@ or-swapped true false = refl
 or-swapped false true = refl
 or-swapped false false = refl
 
-any-reverse : (p : ℕ → Bool) (xs : List ℕ) → list_any p (reverse xs) ≡ list_any p xs
+pub any-reverse : (p : ℕ → Bool) (xs : List ℕ) → list_any p (reverse xs) ≡ list_any p xs
 any-reverse p [] = refl
 any-reverse p (x ∷ xs) =
     ap (list_any p) (reverse-first x xs)

@@ -69,36 +69,42 @@ module _ (rings : Rings) (heads : AreHeads rings) (Has : ℕ → Link → Type 0
   }
 
 pub fields-none : (player : Colour) (board : Board) (links : List Link) (steps : List Step) (plays : List Stage)
-    (groups : Grouped) (allowed : Allowed) (rings : Rings) (fulls : List (List FullLink)) (log : List ℕ) (plays_capacity log_capacity : ℕ)
+    (groups : Grouped) (allowed : Allowed) (rings : Rings) (fulls : List (List FullLink)) (log : List ℕ) (plays_capacity : ℕ)
     → links ≡ [] → steps ≡ [] → plays ≡ [] → log ≡ [] → groups ≡ record { board = board; player = player }
     → IsAllowed allowed board player → IsBoard board → AreHeads rings → AreFullLists [] fulls → 121 ≤ plays_capacity
-    → MOST_LINKS ≤ log_capacity
     → FieldsKeep player (record {
       board = board;
       links = links;
       steps = steps;
-    }) plays groups allowed rings fulls log plays_capacity log_capacity
-fields-none player board links steps plays groups allowed rings fulls log plays_capacity log_capacity no_links no_steps no_plays
-    no_log groups_are allowed_is is_board heads no_fulls room log_room =
+    }) plays groups allowed rings fulls log plays_capacity
+fields-none player board links steps plays groups allowed rings fulls log plays_capacity no_links no_steps no_plays
+    no_log groups_are allowed_is is_board heads no_fulls room =
     rw (no_links, no_steps, no_plays, no_log) record {
       keeps = keeps-none player board is_board;
-      history = record { hold = rings-none rings heads (IsLiveThere board player); log_ok = log-none [] (IsLiveThere board player) };
+      history = record {
+        hold = rings-none rings heads (IsLiveThere board player);
+        log_ok = log-none [] (IsLiveThere board player);
+        others_live = λ place link there. cc;
+      };
       groups_are = groups_are;
       allowed_is = allowed_is;
       fulls_are = no_fulls;
       plays_room = room;
-      log_room = log_room;
     }
 
 module _ (player : Colour) (board : Board) (links : List Link) (steps : List Step) (plays : List Stage) (groups : Grouped)
-    (allowed : Allowed) (rings : Rings) (fulls : List (List FullLink)) (log : List ℕ) (plays_capacity log_capacity : ℕ)
+    (allowed : Allowed) (rings : Rings) (fulls : List (List FullLink)) (log : List ℕ) (plays_capacity : ℕ)
     (k : FieldsKeep player (record {
       board = board;
       links = links;
       steps = steps;
-    }) plays groups allowed rings fulls log plays_capacity log_capacity) where
+    }) plays groups allowed rings fulls log plays_capacity) where
   abbrev old : State
   old = record { board = board; links = links; steps = steps }
+
+  -- how the set stands
+  abbrev pub stage : Stage
+  stage = record { position = board; count = length links; logged = length log }
 
   pub now : HoldsLive player board links rings log
   now = holds-now player board links rings log (reverse plays) k.history
@@ -108,8 +114,8 @@ module _ (player : Colour) (board : Board) (links : List Link) (steps : List Ste
 
   -- ---- before the last plays
 
-  abbrev first : Stage
-  first = stage_before (record { position = board; count = length links; logged = length log }) (reverse plays)
+  abbrev pub first : Stage
+  first = stage_before stage (reverse plays)
 
   pub first-fits : first.logged ≤ length log
   first-fits = (since player board links steps plays rings log k.keeps.stands k.history).0
@@ -135,30 +141,30 @@ module _ (player : Colour) (board : Board) (links : List Link) (steps : List Ste
     pub fields-room : length plays < plays_capacity
     fields-room = omega (arith, room-play player old plays after 0 right_after filled k.keeps, k.plays_room)
 
-    module _ (rings' : Rings) (log' : List ℕ) (passed : IsPassed links board after player (length links) rings rings' log log')
-        (groups' : Grouped) (allowed' : Allowed) (plays' : List Stage) (plays_capacity' log_capacity' : ℕ)
-        (is_groups : groups' ≡ record { board = after; player = player }) (allowed_is : IsAllowed allowed' after player)
-        (is_plays : plays' ≡ plays ++ record { position = board; count = length links; logged = length log } ∷ [])
-        (is_capacity : plays_capacity' ≡ plays_capacity) (is_log_capacity : log_capacity' ≡ log_capacity) where
-      history_is : HasHistory player after links rings' log'
-          (reverse (plays ++ record { position = board; count = length links; logged = length log } ∷ []))
-      history_is = rw reverse-push
-          (history-played links board after player rings rings' log log' passed (more-fewer_live board after more player)
-          (reverse plays) k.history)
-
-      pub fields-played : FieldsKeep player new plays' groups' allowed' rings' fulls log' plays_capacity' log_capacity'
-      fields-played = record {
-        keeps = rw is_plays (keeps-played player old plays after (length log) right_after filled k.keeps);
-        history = rw is_plays history_is;
-        groups_are = is_groups;
-        allowed_is = allowed_is;
-        fulls_are = k.fulls_are;
-        plays_room = rw is_capacity k.plays_room;
-        log_room = rw is_log_capacity k.log_room;
-      }
+    module _ (plays' : List Stage) (play : Stage) (is_play : play ≡ stage) (is_plays : plays' ≡ plays ++ play ∷ []) where
+      plays_are : plays' ≡ plays ++ stage ∷ []
+      plays_are = is_plays ∙ ap (λ (p : Stage). plays ++ p ∷ []) is_play
 
       pub seen-played : standing player new plays' ≡ record { player = player; present = new; past = old ∷ past_of old (reverse plays) }
-      seen-played = rw is_plays (standing-played player old plays after (length log) right_after filled k.keeps)
+      seen-played = rw plays_are (standing-played player old plays after (length log) right_after filled k.keeps)
+
+      module _ (rings' : Rings) (log' : List ℕ) (passed : IsPassed links board after player (length links) rings rings' log log') where
+        history_is : HasHistory player after links rings' log' (reverse (plays ++ stage ∷ []))
+        history_is = rw reverse-push
+            (history-played links board after player rings rings' log log' passed (more-fewer_live board after more player)
+            now.others_live (reverse plays) k.history)
+
+        pub fields-played : (groups' : Grouped) (allowed' : Allowed) (plays_capacity' : ℕ)
+            → groups' ≡ record { board = after; player = player } → IsAllowed allowed' after player → plays_capacity' ≡ plays_capacity
+            → FieldsKeep player new plays' groups' allowed' rings' fulls log' plays_capacity'
+        fields-played groups' allowed' plays_capacity' is_groups allowed_is is_capacity = record {
+          keeps = rw plays_are (keeps-played player old plays after (length log) right_after filled k.keeps);
+          history = rw plays_are history_is;
+          groups_are = is_groups;
+          allowed_is = allowed_is;
+          fulls_are = k.fulls_are;
+          plays_room = rw is_capacity k.plays_room;
+        }
 
   -- ---- the lists of Full links alone made anew
 
@@ -168,7 +174,7 @@ module _ (player : Colour) (board : Board) (links : List Link) (steps : List Ste
         board = board;
         links = links';
         steps = steps';
-      }) plays groups allowed rings' fulls' log plays_capacity log_capacity
+      }) plays groups allowed rings' fulls' log plays_capacity
   fields-same links' steps' rings' fulls' same_links same_steps same_rings are_fulls = record {
     keeps = rw (same_links, same_steps) k.keeps;
     history = rw (same_links, same_rings) k.history;
@@ -176,7 +182,6 @@ module _ (player : Colour) (board : Board) (links : List Link) (steps : List Ste
     allowed_is = k.allowed_is;
     fulls_are = rw same_links are_fulls;
     plays_room = k.plays_room;
-    log_room = k.log_room;
   }
 
   -- ---- a link more
@@ -200,7 +205,7 @@ module _ (player : Colour) (board : Board) (links : List Link) (steps : List Ste
             board = board;
             links = links';
             steps = steps';
-          }) plays groups allowed rings' fulls' log plays_capacity log_capacity
+          }) plays groups allowed rings' fulls' log plays_capacity
       fields-added less is_rings fulls' are_fulls = record {
         keeps = rw (is_links, is_steps) (keeps-added player old plays link step g k.keeps less);
         history = rw (is_links, is_rings)
@@ -210,7 +215,6 @@ module _ (player : Colour) (board : Board) (links : List Link) (steps : List Ste
         allowed_is = k.allowed_is;
         fulls_are = rw is_links are_fulls;
         plays_room = k.plays_room;
-        log_room = k.log_room;
       }
 
       pub seen-added : standing player (record { board = board; links = links'; steps = steps' }) plays

@@ -5,19 +5,20 @@
 use Rattle.std.proofs.lemmas.List.{take_all, take-append-le, reverse-reverse, length-set, get_or_push}
 use Rattle.std.proofs.lemmas.Option.{slice_get_within}
 use Rattle.std.proofs.Common.{◌≡◌, ℕ, suc, get_or, set, length-append, ◌-◌, ◌+◌, ◌<◌, ◌≤◌, List, [], ◌∷◌, ◌++◌, length, take, drop, reverse}
-use Rattle.std.proofs.Common.{refl, sym, ap, ◌∙◌, subst, inl, inr, ⊎_elim, arith}
+use Rattle.std.proofs.Common.{refl, sym, ap, ◌∙◌, subst, inl, inr, ⊎_elim, arith, eqb}
 use Rattle.hx_board.specs.declared.colours.Colour.{Colour}
 use Rattle.hx_board.specs.Positions.{Board}
+use Rattle.hx_board.proofs.ListLaws.{get-push}
 use Rattle.hx_link.specs.declared.links.Link.{Link}
 use Rattle.hx_linkset.specs.declared.plays.Stage.{Stage}
 use Rattle.hx_linkset.specs.States.{IsLive}
 use Rattle.hx_linkset.specs.Rings.{Rings, cut, grown, IsInside}
-use Rattle.hx_linkset.specs.Held.{head_of, IsKeptBelow, IsPassed, IsLiveThere}
+use Rattle.hx_linkset.specs.Held.{head_of, IsKeptBelow, IsIn, IsPassed, IsLiveThere, AreLiveOrLogged}
 use Rattle.hx_linkset.specs.History.{cut_times, rings_before, HoldsLive, CanCut, CanUndo, HasDropped, HasHistory}
 use Rattle.hx_linkset.proofs.RingLaws.{cut-grown}
 use Rattle.hx_linkset.proofs.LogLaws.{log-less, log-more}
 use Rattle.hx_linkset.proofs.PassLaws.{rings-same, linked-small, hold-grown}
-use Rattle.hx_linkset.proofs.DroppedLaws.{dropped-reverse}
+use Rattle.hx_linkset.proofs.DroppedLaws.{in-front, in-back, any-reverse, dropped-reverse}
 
 drop-front : (xs ys : List ℕ) → drop (length xs) (xs ++ ys) ≡ ys
 drop-front [] ys = refl
@@ -34,7 +35,7 @@ holds-now player board links rings log (p ∷ ps) h = h.0
 
 module _ (links : List Link) (before after : Board) (player : Colour) (old new : Rings) (log log' : List ℕ)
     (p : IsPassed links before after player (length links) old new log log')
-    (fewer : (link : Link) → IsLive after player link → IsLive before player link) where
+    (fewer : (link : Link) → IsLive after player link → IsLive before player link) (was : AreLiveOrLogged before player links log) where
   -- what the pass leaves is what is live after the play
   passed-live : HoldsLive player after links new log'
   passed-live = record {
@@ -47,8 +48,16 @@ module _ (links : List Link) (before after : Board) (player : Colour) (old new :
       previous_long = p.hold.previous_long;
     };
     log_ok = log-less links (IsKeptBelow before after player (length links)) (IsLiveThere after player) kept log' p.log_ok;
+    others_live = λ place link there. ⊎_elim
+        (λ live. ⊎_elim inl (λ k. inr (logged place (in-back log (reverse p.dropped) place (any-reverse (eqb place) p.dropped ∙ k))))
+        (p.all_dropped.all place link there (slice_get_within links place link there) live))
+        (λ k. inr (logged place (in-front log (reverse p.dropped) place k)))
+        (was place link there);
   }
     where
+      logged : (place : ℕ) → IsIn (log ++ reverse p.dropped) place → IsIn log' place
+      logged place k = let P : List ℕ → Type 0 = λ xs. IsIn xs place in subst P (sym p.logged) k
+
       kept : (place : ℕ) (link : Link) → IsLive after player link → IsKeptBelow before after player (length links) place link
       kept place link live = (fewer link live, λ lt. live)
 
@@ -164,6 +173,10 @@ module _ (links : List Link) (board : Board) (player : Colour) (rings : Rings) (
   more-live = record {
     hold = hold-grown links board player rings now.hold link live small;
     log_ok = log-more links (IsLiveThere board player) log link now.log_ok;
+    others_live = λ place l there. ⊎_elim
+        (λ old. now.others_live place l old)
+        (λ new. let P : Link → Type 0 = λ x. IsLive board player x in inl (subst P (sym new.1) live))
+        (get-push links link l place there);
   }
 
   pub history-added : (plays : List Stage) → LastFits links plays → HasHistory player board links rings log plays

@@ -21,6 +21,7 @@ pub mod PairLaws
 pub mod FieldLaws
 pub mod BlockLaws
 pub mod TouchLaws
+pub mod LogWordLaws
 pub mod MarkLaws
 pub mod RenamingLaws
 pub mod ClosedLaws

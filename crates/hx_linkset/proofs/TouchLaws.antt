@@ -1,13 +1,13 @@
 -- The blocks beside the links, as links come and go; and a link that a play does not touch, which is live after it if
 -- it was before.
 use Rattle.std.proofs.Common.{◌≡◌, ◌≢◌, ℕ, zero, suc, ◌+◌, ◌*◌, ◌-◌, ◌/◌, ◌%◌, ◌^◌, ◌<◌, ◌≤◌, true, false, List, [], ◌∷◌, ◌++◌, length, take, refl, sym, ap}
-use Rattle.std.proofs.Common.{◌∙◌, subst, Some, ⊎_elim, inl, inr, arith, length-append, length-take, eqb}
+use Rattle.std.proofs.Common.{◌∙◌, subst, Some, ⊎_elim, inl, inr, ◌⊎◌, Bool, not, arith, bit_and, length-append, length-take, eqb}
 use Rattle.std.proofs.Math.ListN.{set}
 use Rattle.std.specs.Prelude.{slice_get}
 use Rattle.std.specs.Int.Count.{count_trailing_zeros}
 use Rattle.std.proofs.lemmas.Bool.{false≢true, false_from_ne_true, cases_eq, cases_lt}
 use Rattle.std.proofs.lemmas.List.{length-set}
-use Rattle.std.proofs.lemmas.Nat.{div-add-mod', row_below_turned}
+use Rattle.std.proofs.lemmas.Nat.{and_le_l, div-add-mod', row_below_turned}
 use Rattle.std.proofs.Math.Nat.{mod-lt}
 use Rattle.std.proofs.Math.Pow.{pow_pos}
 use Rattle.std.proofs.lemmas.Nat.Bits.{bit_at_above}
@@ -15,12 +15,12 @@ use Rattle.std.proofs.lemmas.Option.{slice_get_within}
 use Rattle.hx_board.specs.declared.colours.Colour.{Colour}
 use Rattle.hx_board.specs.declared.vertices.Vertex.{Vertex}
 use Rattle.hx_board.specs.declared.vertices.Vertex.TheVariants.{Of, First, Last}
-use Rattle.hx_board.specs.Sets.{has, ShareNone}
+use Rattle.hx_board.specs.Sets.{has, intersection, ShareNone}
 use Rattle.hx_board.specs.Positions.{Board, IsBoard}
 use Rattle.hx_board.specs.VertexSets.{code_of, IsSomeVertex}
 use Rattle.hx_board.proofs.CellLaws.{on_board-small}
 use Rattle.hx_board.proofs.ListLaws.{get-push}
-use Rattle.hx_board.proofs.SetLaws.{has-empty, has-earlier}
+use Rattle.hx_board.proofs.SetLaws.{has-empty, has-earlier, has_not-intersection, has-intersection_right}
 use Rattle.hx_link.specs.declared.links.Allowed.{Allowed}
 use Rattle.hx_link.specs.declared.links.Link.{Link}
 use Rattle.hx_link.specs.Steps.{IsEnd, IsAllowed}
@@ -28,7 +28,9 @@ use Rattle.hx_linkset.specs.declared.blocks.Block.{Block}
 use Rattle.hx_linkset.specs.declared.liveness.Losses.{Losses}
 use Rattle.hx_linkset.specs.States.{IsLive}
 use Rattle.hx_linkset.specs.Losses.{AreLosses}
-use Rattle.hx_linkset.specs.Touches.{IsOf, Touch, RowHas, AreBlocksOf, HasTouched, Sought, NoneTouched}
+use Rattle.hx_linkset.specs.Held.{IsIn}
+use Rattle.hx_linkset.specs.Logs.{AreOthers}
+use Rattle.hx_linkset.specs.Touches.{IsOf, Touch, RowHas, AreBlocksOf, HasTouched, Sought, TouchedAreLogged}
 use Rattle.hx_linkset.proofs.BlockLaws.{IsLowestOf, lowest-of_word}
 use Rattle.hx_linkset.proofs.HeadLaws.{live-some}
 use Rattle.hx_linkset.proofs.LossLaws.{untaken-end, untaken-live}
@@ -125,16 +127,19 @@ blocks-fewer links blocks count old new are less there kept = record {
       (cases_eq at (count / 64));
 }
 
--- ---- the next link that is touched
+-- ---- the next link that is touched and not on the log
 
-pub none-more : (sought : Sought) (from at bound : ℕ) → NoneTouched sought from at → NoneTouched sought at bound → NoneTouched sought from bound
-none-more sought from at bound before more place link low high there touch = ⊎_elim
+pub logged-more : (sought : Sought) (log : List ℕ) (from at bound : ℕ) → TouchedAreLogged sought log from at
+    → TouchedAreLogged sought log at bound → TouchedAreLogged sought log from bound
+logged-more sought log from at bound before more place link low high there touch = ⊎_elim
     (λ less. before place link low less there touch)
     (λ le. more place link le high there touch)
     (cases_lt place at)
 
-pub none-fewer : (sought : Sought) (from bound less : ℕ) → less ≤ bound → NoneTouched sought from bound → NoneTouched sought from less
-none-fewer sought from bound less le none place link low high there touch = none place link low (omega (arith, le, high)) there touch
+pub logged-fewer : (sought : Sought) (log : List ℕ) (from bound less : ℕ) → less ≤ bound → TouchedAreLogged sought log from bound
+    → TouchedAreLogged sought log from less
+logged-fewer sought log from bound less le logged place link low high there touch =
+    logged place link low (omega (arith, le, high)) there touch
 
 above-word : (word n : ℕ) → word < 2 ^ 64 → has word n ≡ true → n < 64
 unfolding has
@@ -143,30 +148,73 @@ above-word word n small h = ⊎_elim
     (λ le. absurd (false≢true (sym (ap (λ (b : ℕ). eqb b 1) (bit_at_above word 64 n small le)) ∙ h)))
     (cases_lt n 64)
 
-module _ (sought : Sought) (at numbers : ℕ) (touched : HasTouched sought.links sought.cells (at / 64) numbers) where
+not-true : (b : Bool) → not b ≡ true → b ≡ false
+not-true true e = sym e
+not-true false e = refl
+
+not-false : (b : Bool) → not b ≡ false → b ≡ true
+not-false true e = refl
+not-false false e = sym e
+
+-- the numbers of those links of a block that are touched, of which those are left that are not on the log
+module _ (sought : Sought) (log : List ℕ) (at numbers others : ℕ) (touched : HasTouched sought.links sought.cells (at / 64) numbers)
+    (off : AreOthers log (at / 64) others) where
+  abbrev left : ℕ
+  left = bit_and numbers others
+
   abbrev rest : ℕ
-  rest = numbers / 2 ^ (at % 64)
+  rest = left / 2 ^ (at % 64)
+
+  left-out : (number : ℕ) → has left number ≡ false → (has numbers number ≡ false) ⊎ (has others number ≡ false)
+  unfolding intersection
+  left-out number lacks = has_not-intersection numbers others number lacks
+
+  left-off : (number : ℕ) → has left number ≡ true → has others number ≡ true
+  unfolding intersection
+  left-off number is = has-intersection_right numbers others number is
 
   untold : (place : ℕ) (link : Link) → at ≤ place → place - at + at % 64 < 64 → has rest (place - at) ≡ false
-      → slice_get sought.links place ≡ Some link → Touch sought.cells link → ⊥
+      → slice_get sought.links place ≡ Some link → Touch sought.cells link → IsIn log place
   untold place link low small lacks there touch =
-      let same : place ≡ 64 * (at / 64) + (place - at + at % 64) = omega (arith, low, div-add-mod' at 64) in
+      let number : ℕ = place - at + at % 64 in
+      let same : place ≡ 64 * (at / 64) + number = omega (arith, low, div-add-mod' at 64) in
       let P : ℕ → Type 0 = λ x. slice_get sought.links x ≡ Some link in
-      false≢true (sym lacks ∙ (has-earlier numbers (at % 64) (place - at)
-      ∙ touched (place - at + at % 64) link small (subst P same there) touch))
+      let Q : ℕ → Type 0 = λ x. IsIn log x in
+      ⊎_elim
+      (λ told. absurd (false≢true (sym told ∙ touched number link small (subst P same there) touch)))
+      (λ out. subst Q (sym same) (not-false _ (sym (off number small) ∙ out)))
+      (left-out number (sym (has-earlier left (at % 64) (place - at)) ∙ lacks))
 
-  pub none-left : rest ≡ 0 → NoneTouched sought at (at + (64 - at % 64))
-  none-left none place link low high there touch =
+  pub logged-past : rest ≡ 0 → TouchedAreLogged sought log at (at + (64 - at % 64))
+  logged-past none place link low high there touch =
       untold place link low (omega (arith, low, high)) (ap (λ (s : ℕ). has s (place - at)) none ∙ has-empty (place - at)) there touch
 
-  pub none-before : rest ≢ 0 → numbers < 2 ^ 64 → NoneTouched sought at (at + count_trailing_zeros 64 rest)
-  none-before some small place link low high there touch =
-      let small_rest : rest < 2 ^ 64 = (row_below_turned numbers (2 ^ (at % 64)) (2 ^ 64) 1 (omega (arith, small)) (pow_pos (at % 64))).1 in
-      let first : IsLowestOf rest (count_trailing_zeros 64 rest) = lowest-of_word rest some small_rest in
-      let inside : count_trailing_zeros 64 rest + at % 64 < 64 =
-      above-word numbers (count_trailing_zeros 64 rest + at % 64) small
-      (sym (has-earlier numbers (at % 64) (count_trailing_zeros 64 rest)) ∙ first.lowest.member) in
-      untold place link low (omega (arith, low, high, inside)) (first.lowest.first (place - at) (omega (arith, low, high))) there touch
+  module _ (some : rest ≢ 0) (small : numbers < 2 ^ 64) where
+    abbrev first : ℕ
+    first = count_trailing_zeros 64 rest
+
+    small_left : left < 2 ^ 64
+    small_left = omega (arith, small, and_le_l numbers others)
+
+    lowest : IsLowestOf rest first
+    lowest = lowest-of_word rest some (row_below_turned left (2 ^ (at % 64)) (2 ^ 64) 1 (omega (arith, small_left)) (pow_pos (at % 64))).1
+
+    member : has left (first + at % 64) ≡ true
+    member = sym (has-earlier left (at % 64) first) ∙ lowest.lowest.member
+
+    inside : first + at % 64 < 64
+    inside = above-word left (first + at % 64) small_left member
+
+    pub logged-before : TouchedAreLogged sought log at (at + first)
+    logged-before place link low high there touch =
+        untold place link low (omega (arith, low, high, inside)) (lowest.lowest.first (place - at) (omega (arith, low, high))) there touch
+
+    pub first-off : IsIn log (at + first) → ⊥
+    first-off logged =
+        let same : at + first ≡ 64 * (at / 64) + (first + at % 64) = omega (arith, div-add-mod' at 64) in
+        let P : ℕ → Type 0 = λ x. IsIn log x in
+        let out = not-true _ (sym (off (first + at % 64) inside) ∙ left-off (first + at % 64) member) in
+        false≢true (sym out ∙ subst P same logged)
 
 -- ---- a link that a play does not touch
 

@@ -111,6 +111,11 @@ IsKeptBelow before after player bound place link =
 abbrev pub IsIn : List ℕ → ℕ → Type 0
 IsIn places place = list_any (nat_eq place) places ≡ true
 
+-- each link is live, or its place is on the log
+abbrev pub AreLiveOrLogged : Board → Colour → List Link → List ℕ → Type 0
+AreLiveOrLogged board player links log =
+    (place : ℕ) (link : Link) → slice_get links place ≡ Some link → IsLive board player link ⊎ IsIn log place
+
 -- these links were live before, and each one below the bound that was live before is live still or
 -- one of them
 pub record AreAllDropped (links : List Link) (before after : Board) (player : Colour) (bound : ℕ)

@@ -9,11 +9,10 @@ use Rattle.hx_link.specs.declared.links.Link.{Link}
 use Rattle.hx_link.specs.Steps.{IsAllowed}
 use Rattle.hx_linkset.specs.declared.fulls.FullLink.{FullLink}
 use Rattle.hx_linkset.specs.declared.plays.Stage.{Stage}
-use Rattle.hx_linkset.specs.declared.limits.TheConstants.{MOST_LINKS}
 use Rattle.hx_linkset.specs.States.{State, IsLive}
 use Rattle.hx_linkset.specs.Plays.{Keeps}
 use Rattle.hx_linkset.specs.Rings.{Rings, cut, IsInside}
-use Rattle.hx_linkset.specs.Held.{RingsHold, LogHolds, IsLiveThere, CanRelink, relinked_all, AreAllDropped}
+use Rattle.hx_linkset.specs.Held.{RingsHold, LogHolds, IsLiveThere, CanRelink, relinked_all, AreAllDropped, AreLiveOrLogged}
 use Rattle.hx_linkset.specs.Fulls.{AreFullLists}
 
 -- the last nodes cut off, as many as that
@@ -26,10 +25,11 @@ abbrev pub rings_before : Rings → List Link → List ℕ → Stage → Rings
 rings_before rings links log play =
     relinked_all (cut_times (length links - play.count) rings) (reverse (drop play.logged log))
 
--- the rings hold the live links, and the log names links that are not live
+-- the rings hold the live links, and the log names those that are not live
 pub record HoldsLive (player : Colour) (board : Board) (links : List Link) (rings : Rings) (log : List ℕ) : Type 0 where
   pub hold : RingsHold links (IsLiveThere board player) rings
   pub log_ok : LogHolds links (IsLiveThere board player) log
+  pub others_live : AreLiveOrLogged board player links log
 
 -- the last nodes can be cut off, as many as that
 abbrev pub CanCut : ℕ → Rings → Type 0
@@ -61,11 +61,10 @@ HasHistory player board links rings log (play ∷ plays) =
 -- what the fields of a set keep
 pub record FieldsKeep (player : Colour) (state : State) (plays : List Stage) (groups : Grouped)
     (allowed : Allowed) (rings : Rings) (fulls : List (List FullLink)) (log : List ℕ)
-    (plays_capacity log_capacity : ℕ) : Type 0 where
+    (plays_capacity : ℕ) : Type 0 where
   pub keeps : Keeps player state plays
   pub history : HasHistory player state.board state.links rings log (reverse plays)
   pub groups_are : groups ≡ record { board = state.board; player = player }
   pub allowed_is : IsAllowed allowed state.board player
   pub fulls_are : AreFullLists state.links fulls
   pub plays_room : CELLS ≤ plays_capacity
-  pub log_room : MOST_LINKS ≤ log_capacity

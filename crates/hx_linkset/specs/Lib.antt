@@ -3,6 +3,7 @@ pub mod Answers
 pub mod Plays
 pub mod Rings
 pub mod Held
+pub mod Logs
 pub mod History
 pub mod LivePairs
 pub mod Marks

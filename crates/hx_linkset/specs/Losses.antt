@@ -5,8 +5,8 @@ use Rattle.hx_board.specs.Sets.{has, difference}
 use Rattle.hx_link.specs.declared.links.Allowed.{Allowed}
 use Rattle.hx_linkset.specs.declared.liveness.Losses.{Losses}
 
--- these are the empty cells and the ends that are gone, and those of both that are cells together, and where it tells of
--- no such ends the ends are the same
+-- these are the empty cells and the ends that are gone, and those of both that are cells together, and where it tells
+-- of no such ends the ends are the same
 pub record AreLosses (losses : Losses) (before after : Allowed) : Type 0 where
   pub filled : losses.filled ≡ difference before.empties after.empties
   pub ends : losses.ends ≡ difference before.ends after.ends

@@ -7,6 +7,7 @@ use Rattle.hx_board.specs.VertexSets.{code_of}
 use Rattle.hx_link.specs.declared.links.Link.{Link}
 use Rattle.hx_linkset.specs.declared.blocks.Block.{Block}
 use Rattle.hx_linkset.specs.declared.blocks.TheConstants.{BLOCK}
+use Rattle.hx_linkset.specs.Held.{IsIn}
 
 -- a cell that a stone may take of a link: one of its carrier, or an end
 abbrev pub IsOf : ℕ → Link → Type 0
@@ -37,13 +38,14 @@ pub record Sought : Type 0 where
   pub links : List Link
   pub cells : ℕ
 
--- from one place on and below another no link is touched
-abbrev pub NoneTouched : Sought → ℕ → ℕ → Type 0
-NoneTouched sought from bound = (place : ℕ) (link : Link) → from ≤ place → place < bound
-    → slice_get sought.links place ≡ Some link → Touch sought.cells link → ⊥
+-- from one place on and below another each link that is touched is on the log
+abbrev pub TouchedAreLogged : Sought → List ℕ → ℕ → ℕ → Type 0
+TouchedAreLogged sought log from bound = (place : ℕ) (link : Link) → from ≤ place → place < bound
+    → slice_get sought.links place ≡ Some link → Touch sought.cells link → IsIn log place
 
--- a place, from another one on, before which no link is touched
-pub record MayBeNext (sought : Sought) (from place : ℕ) : Type 0 where
+-- a place that is not on the log, from another one on, before which each link that is touched is on the log
+pub record MayBeNext (sought : Sought) (log : List ℕ) (from place : ℕ) : Type 0 where
   pub order : from ≤ place
   pub inside : place < length sought.links
-  pub before : NoneTouched sought from place
+  pub off : IsIn log place → ⊥
+  pub before : TouchedAreLogged sought log from place

@@ -8,10 +8,14 @@ ghost use Rattle.std.specs.Prelude.{◌≡◌, ℕ, ◌+◌, ◌<◌, ◌≤◌,
 ghost use Rattle.hx_board.specs.Sets.{has};
 ghost use Rattle.hx_linkset.specs.Touches.{RowHas};
 
+use crate::limits::MOST_LINKS;
 use hx_board::Mask;
 
 /// How many links make a block.
 pub(crate) const BLOCK: usize = 64;
+
+/// The most blocks that the links of a set make.
+pub(crate) const MOST_BLOCKS: usize = MOST_LINKS / BLOCK;
 
 /// How many numbers a set of cells is of. The largest board has fewer cells.
 const PLACES: usize = 128;

@@ -10,6 +10,7 @@ mod derivations;
 mod fulls;
 mod limits;
 mod liveness;
+mod log;
 mod marks;
 mod pairs;
 mod passes;

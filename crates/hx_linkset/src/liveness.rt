@@ -57,38 +57,32 @@ pub(crate) fn losses_of(before: &Allowed, after: &Allowed) -> Losses
     }
 }
 
-/// Whether a play takes an end of a link whose carrier is empty before it.
+/// Whether a play takes an end of a link.
 #[inline(always)]
-fn loses_end(before: &Allowed, losses: &Losses, link: &Link) -> bool
-    ensures lost { (after : Allowed) (new : Board) (player : Colour)
-        → AreLosses losses.now before.now after → IsAllowed after new player
+fn loses_end(losses: &Losses, link: &Link) -> bool
+    ensures lost { (before after : Allowed) (new : Board) (player : Colour)
+        → AreLosses losses.now before after → IsAllowed after new player
         → IsTrue result → IsLive new player link.now → ⊥ }
-    ensures kept { (after : Allowed) (old new : Board) (player : Colour)
-        → AreLosses losses.now before.now after → IsAllowed before.now old player
+    ensures kept { (before after : Allowed) (old new : Board) (player : Colour)
+        → AreLosses losses.now before after → IsAllowed before old player
         → IsAllowed after new player → result ≡ false → IsLive old player link.now
         → IsEnd new player link.now.a × IsEnd new player link.now.b }
 {
     let (_a, _b) = (link.a.code(), link.b.code());
-    losses.has_ends
-        && link.carrier.inside(before.empties)
-        && (losses.ends.has(link.a) || losses.ends.has(link.b))
+    losses.has_ends && (losses.ends.has(link.a) || losses.ends.has(link.b))
 }
 
-/// Whether a link is live before a play and not after it. Of most links a play takes nothing, so that is asked first.
+/// Whether a link that is live before a play is not live after it. Of most links that it touches a play takes a cell,
+/// so that is asked first.
 #[inline(always)]
-pub(crate) fn is_dropped(before: &Allowed, losses: &Losses, link: &Link) -> bool
-    ensures dropped { (after : Allowed) (old new : Board) (player : Colour)
-        → AreLosses losses.now before.now after → IsAllowed before.now old player
-        → IsAllowed after new player
-        → IsTrue result → IsLive old player link.now × (IsLive new player link.now → ⊥) }
-    ensures kept { (after : Allowed) (old new : Board) (player : Colour)
-        → AreLosses losses.now before.now after → IsAllowed before.now old player
+pub(crate) fn is_dropped(losses: &Losses, link: &Link) -> bool
+    ensures dropped { (before after : Allowed) (new : Board) (player : Colour)
+        → AreLosses losses.now before after → IsAllowed after new player
+        → IsTrue result → IsLive new player link.now → ⊥ }
+    ensures kept { (before after : Allowed) (old new : Board) (player : Colour)
+        → AreLosses losses.now before after → IsAllowed before old player
         → IsAllowed after new player
         → result ≡ false → IsLive old player link.now → IsLive new player link.now }
 {
-    let loses_cell = link.carrier.meets(losses.filled);
-    if loses_cell {
-        return is_live(before, link);
-    }
-    loses_end(before, losses, link) && is_live(before, link)
+    link.carrier.meets(losses.filled) || loses_end(losses, link)
 }

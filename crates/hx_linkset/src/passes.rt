@@ -1,7 +1,7 @@
 //! The pass of a play over the links, and its taking back.
 
-ghost use Rattle.std.specs.Prelude.{◌≡◌, ◌+◌, ◌-◌, ◌<◌, ◌≤◌, length, reverse, take, drop, vec_len, vec_capacity};
-ghost use Rattle.hx_linkset.specs.Held.{RingsHold, LogHolds, IsPassed, IsLiveThere, CanRelink, relinked_all};
+ghost use Rattle.std.specs.Prelude.{◌≡◌, ◌+◌, ◌-◌, ◌<◌, ◌≤◌, length, reverse, take, drop};
+ghost use Rattle.hx_linkset.specs.Held.{RingsHold, LogHolds, IsPassed, IsLiveThere, AreLiveOrLogged, CanRelink, relinked_all};
 ghost use Rattle.hx_linkset.specs.History.{CanCut, cut_times};
 ghost use Rattle.hx_linkset.specs.Fulls.{AreFullLists};
 
@@ -9,6 +9,7 @@ use crate::chains::{Chains, FIRST_NODE};
 use crate::fulls::FullLists;
 use crate::limits::MOST_LINKS;
 use crate::liveness::{is_dropped, losses_of};
+use crate::log::Log;
 use crate::touches::HeldLinks;
 use hx_board::{Colour, Position};
 use hx_link::{Link, allowed_on};
@@ -16,19 +17,18 @@ use hx_link::{Link, allowed_on};
 /// Takes each link out that is live before a play and not after it, and logs it.
 pub(crate) fn drop_dead(
     chains: &mut Chains,
-    log: &mut Vec<u16>,
+    log: &mut Log,
     links: &HeldLinks,
     before: &Position,
     after: &Position,
     player: Colour,
 )
     requires hold { RingsHold links.now (IsLiveThere before.now player) chains.old }
-    requires log_ok { LogHolds links.now (IsLiveThere before.now player) log.old.items }
+    requires log_ok { LogHolds links.now (IsLiveThere before.now player) log.old }
+    requires others_live { AreLiveOrLogged before.now player links.now log.old }
     requires few { length links.now ≤ MOST_LINKS }
-    requires room { MOST_LINKS ≤ vec_capacity log.old }
-    ensures passed { IsPassed links.now before.now after.now player (length links.now)
-        chains.old chains.new log.old.items log.new.items }
-    ensures room { vec_capacity log.new ≡ vec_capacity log.old }
+    ensures { IsPassed links.now before.now after.now player (length links.now)
+        chains.old chains.new log.old log.new }
 {
     // The proof takes from here that the position's board is one.
     let _size = before.size();
@@ -37,14 +37,14 @@ pub(crate) fn drop_dead(
     let losses = losses_of(&allowed_before, &allowed_after);
     let mut touched = links.touched(losses.taken);
     let mut from = 0;
-    while let Some(place) = touched.first_from(from) {
+    while let Some(place) = touched.first_from(log, from) {
         from = place + 1;
-        let drops = is_dropped(&allowed_before, &losses, &links.as_slice()[place]);
+        let drops = is_dropped(&losses, &links.as_slice()[place]);
         if !drops {
             continue;
         }
         chains.unlink(FIRST_NODE + place as u16);
-        log.push_reserved(place as u16);
+        log.push(place as u16);
     }
 }
 
@@ -65,18 +65,15 @@ pub(crate) fn cut_down(chains: &mut Chains, held: u16, kept: u16)
 }
 
 /// Puts the links back that the log has above a length, the last first.
-pub(crate) fn put_back(chains: &mut Chains, log: &mut Vec<u16>, kept: usize)
-    requires base { kept ≤ vec_len log.old }
+pub(crate) fn put_back(chains: &mut Chains, log: &mut Log, kept: usize)
+    requires base { kept ≤ length log.old }
     requires few { length chains.old.next < 65536 }
-    requires can { CanRelink chains.old (reverse (drop kept log.old.items)) }
-    ensures chains { chains.new ≡ relinked_all chains.old (reverse (drop kept log.old.items)) }
-    ensures log { log.new.items ≡ take kept log.old.items }
-    ensures room { vec_capacity log.new ≡ vec_capacity log.old }
+    requires can { CanRelink chains.old (reverse (drop kept log.old)) }
+    ensures chains { chains.new ≡ relinked_all chains.old (reverse (drop kept log.old)) }
+    ensures log { log.new ≡ take kept log.old }
 {
     while kept < log.len() {
-        let last = log.len() - 1;
-        let place = log[last];
-        log.truncate(last);
+        let place = log.pop();
         chains.relink(FIRST_NODE + place);
     }
 }

@@ -2,10 +2,11 @@
 //!
 //! Links and steps stand in the order in which they came, and none is taken away before the play that it came after is
 //! taken back. The live ones of each kind and pair of ends are chained, so `add` looks for a cover in one chain alone.
-//! A play, of one stone or of several, is one pass over all links: it takes those that are live no more out of their
-//! chains and writes them on a log. `undo` cuts off what came since, and puts the logged ones back in opposite order,
-//! which makes the chains what they were. The stones of a turn, its own and those of fill-in, are one play, so that
-//! they cost one pass and one making of the groups. The Full links stand once more in a list for each of their ends.
+//! A play, of one stone or of several, is one pass over the live links that it touches: it takes those that are live no
+//! more out of their chains and writes them on a log. `undo` cuts off what came since, and puts the logged ones back in
+//! opposite order, which makes the chains what they were. The stones of a turn, its own and those of fill-in, are one
+//! play, so that they cost one pass and one making of the groups. The Full links stand once more in a list for each of
+//! their ends.
 //!
 //! Of the calls that change the set `add` alone takes memory, and `new` takes all that `play` and `undo`
 //! need; `derivation` takes the memory of what it answers. A board has at most `CELLS` empty cells and
@@ -34,6 +35,7 @@ use crate::derivations::{Derived, derivation_of};
 use crate::fulls::{FullIter, FullLists};
 use crate::limits::MOST_LINKS;
 use crate::liveness::is_live;
+use crate::log::Log;
 use crate::pairs::{PairIter, in_order};
 use crate::passes::{cut_down, cut_fulls, drop_dead, put_back};
 use crate::plays::{Stage, before_last, can_put, key_of, logged_from, stage_of, with_all};
@@ -79,8 +81,8 @@ pub struct LinkSet {
     /// The Full links at each vertex, live or not.
     fulls: FullLists,
 
-    /// The links that the plays dropped, in the order in which they were dropped.
-    log: Vec<u16>,
+    /// The links that the plays dropped, in the order in which they were dropped: those that are not live.
+    log: Log,
 
     /// How the set stood before each play that stands.
     plays: Vec<Stage>,
@@ -100,8 +102,7 @@ impl Model for LinkSet {
 
     ghost invariant = { λ s. FieldsKeep s.colour
         record { board = s.position; links = s.links; steps = s.steps.items } s.plays.items
-        s.groups.value s.allowed s.chains s.fulls s.log.items
-        (vec_capacity s.plays) (vec_capacity s.log) };
+        s.groups.value s.allowed s.chains s.fulls s.log (vec_capacity s.plays) };
 }
 
 impl LinkSet {
@@ -116,7 +117,7 @@ impl LinkSet {
         let Ok(plays) = Vec::with_capacity(alloc, CELLS) else {
             return Err(Memory);
         };
-        let Ok(log) = Vec::with_capacity(alloc, MOST_LINKS) else {
+        let Ok(log) = Log::new(alloc) else {
             return Err(Memory);
         };
         let Ok(chains) = Chains::new(alloc) else {

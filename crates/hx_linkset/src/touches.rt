@@ -1,16 +1,19 @@
 //! The links that are held, and beside them which of them each cell touches.
 //!
-//! A play fills cells, and takes ends away by the opponent's stones. Of most links it takes nothing. So beside the links
-//! stand blocks, which tell of each cell the links in whose carriers it is or that end there: the pass of a play goes to
-//! those that its cells touch, and looks at no other link.
+//! A play fills cells, and takes ends away by the opponent's stones. Of most links it takes nothing. So beside the
+//! links stand blocks, which tell of each cell the links in whose carriers it is or that end there: the pass of a play
+//! goes to those that its cells touch and that are not on the log, and looks at no other link.
 //!
-//! Promised is only that the blocks miss no link that a cell touches. So each link that they tell of is looked at.
+//! Promised is only that the blocks miss no link that a cell touches. So each link that they tell of and that is not on
+//! the log is looked at.
 
 ghost use Rattle.std.specs.Prelude.{◌≡◌, ◌/◌, ◌^◌, ◌<◌, ◌≤◌, List, [], ◌++◌, ◌∷◌, take, length, vec_len, MatchOption, OnOk, OnErr};
 ghost use Rattle.hx_link.specs.declared.links.Link.{Link};
-ghost use Rattle.hx_linkset.specs.Touches.{AreBlocksOf, HasTouched, NoneTouched, MayBeNext};
+ghost use Rattle.hx_linkset.specs.Touches.{AreBlocksOf, HasTouched, TouchedAreLogged, MayBeNext};
 
 use crate::blocks::{BLOCK, Block};
+use crate::limits::MOST_LINKS;
+use crate::log::Log;
 use hx_board::{Mask, Memory, VertexSet};
 use hx_link::Link;
 use std::alloc::Global;
@@ -169,17 +172,21 @@ impl<'a> Model for Touched<'a> {
 }
 
 impl<'a> Touched<'a> {
-    /// The next place, from one on, at which one of them may stand. None where no more of them stand.
+    /// The next place, from one on, at which one of them may stand that is not on the log. None where no more of them
+    /// stand.
     #[inline(always)]
-    pub(crate) fn first_from(&mut self, from: usize) -> Option<usize>
+    pub(crate) fn first_from(&mut self, log: &Log, from: usize) -> Option<usize>
+        requires few { length self.old.links ≤ MOST_LINKS }
         ensures same { self.new ≡ self.old }
-        ensures found { MatchOption result (NoneTouched self.old from (length self.old.links))
-            (MayBeNext self.old from) }
+        ensures found { MatchOption result
+            (TouchedAreLogged self.old log.now from (length self.old.links))
+            (MayBeNext self.old log.now from) }
     {
         let mut at = from;
         while at < self.links.len() {
             let number = at % BLOCK;
-            let rest = self.numbers_in(at / BLOCK) >> number;
+            let block = at / BLOCK;
+            let rest = (self.numbers_in(block) & log.others(block)) >> number;
             if rest != 0 {
                 let place = at + rest.trailing_zeros() as usize;
                 return if place < self.links.len() {

@@ -1,12 +1,11 @@
-use Rattle.std.proofs.Common.{◌≡◌, ◌+◌, ◌<◌, ◌≤◌, ℕ, [], ◌∷◌, ◌++◌, length, set, refl, ap, ◌∙◌, true, Some, arith}
+use Rattle.std.proofs.Common.{◌≡◌, ◌+◌, ◌≤◌, ℕ, [], ◌∷◌, ◌++◌, length, set, ap, ◌∙◌, true, Some, arith}
 use Rattle.std.specs.Prelude.{slice_get, slice_index, is_ok}
 use Rattle.hx_link.specs.declared.steps.Step.{Step}
-use Rattle.std.proofs.lemmas.Option.{slice_get_read}
 use Rattle.hx_linkset.specs.States.{State}
 use Rattle.hx_linkset.specs.Marks.{IsMarked, IsFirstMarkFrom}
 use Rattle.hx_linkset.specs.Derivations.{AreKeptBelow, renamed}
 use Rattle.hx_linkset.proofs.MarkLaws.{marked-inside}
-use Rattle.hx_linkset.proofs.ClosedLaws.{part-before}
+use Rattle.hx_linkset.proofs.ClosedLaws.{part-before, marked-step}
 use Rattle.hx_linkset.proofs.KeptStepLaws.{kept-none, kept-more, kept-all}
 use Rattle.hx_linkset.proofs.derivations.kept_for.Goals as goal
 
@@ -29,35 +28,20 @@ renamed_step-requires c = λ part named.
     let s : State = record { board = c.args.position.now; links = c.args.links.now; steps = c.args.steps.now } in
     let at : IsFirstMarkFrom c.args.wanted.now.marks.items c.loop-place.bound c.in-Some.place =
     rw c.as_slice.ensures.value at c.in-Some.ensures in
-    let inside : c.in-Some.place < length c.args.steps.now =
-    omega (
-      arith,
-      marked-inside c.args.wanted.now.marks.items c.in-Some.place at.marked,
-      c.requires.closed.long,
-      c.requires.right.steps_of,
-    ) in
     let there : slice_get c.args.steps.now c.in-Some.place ≡ Some c.index-steps-place.result =
-    slice_get_read c.args.steps.now
-    (length c.args.steps.now) c.in-Some.place c.index-steps-place.result refl inside c.index-steps-place.is in
+    marked-step c.args.player s c.requires.right _ c.requires.closed.long _ at.marked _ c.index-steps-place.is in
     let before = part-before c.args.player s c.requires.right c.in-Some.place c.index-steps-place.result
     (c.requires.closed.live c.in-Some.place at.marked) there part named in
-    rw c.as_slice-in-Some.ensures.value (omega (arith, before.0, inside, c.requires.right.steps_of, c.loop-place.invariant.named))
+    rw c.as_slice-in-Some.ensures.value
+    (omega (arith, before.0, marked-inside c.args.wanted.now.marks.items c.in-Some.place at.marked, c.requires.closed.long, c.loop-place.invariant.named))
 
 pub loop-place-preserved : goal.loop-place-preserved
 loop-place-preserved c =
     let s : State = record { board = c.args.position.now; links = c.args.links.now; steps = c.args.steps.now } in
     let at : IsFirstMarkFrom c.args.wanted.now.marks.items c.loop-place.bound c.in-Some.place =
     rw c.as_slice.ensures.value at c.in-Some.ensures in
-    let inside : c.in-Some.place < length c.args.steps.now =
-    omega (
-      arith,
-      marked-inside c.args.wanted.now.marks.items c.in-Some.place at.marked,
-      c.requires.closed.long,
-      c.requires.right.steps_of,
-    ) in
     let there : slice_get c.args.steps.now c.in-Some.place ≡ Some c.index-steps-place.result =
-    slice_get_read c.args.steps.now
-    (length c.args.steps.now) c.in-Some.place c.index-steps-place.result refl inside c.index-steps-place.is in
+    marked-step c.args.player s c.requires.right _ c.requires.closed.long _ at.marked _ c.index-steps-place.is in
     let made : c.in-Ok-renamed_step.step ≡ renamed (λ (p : ℕ). slice_index c.loop-place.names.items p) c.index-steps-place.result =
     rw c.as_slice-in-Some.ensures.value at c.in-Ok-renamed_step.ensures in
     let number : c.len.result ≡ length c.loop-place.kept.items = omega (arith, c.len.ensures, c.loop-place.kept.ok) in

@@ -1,10 +1,10 @@
-use Rattle.std.proofs.Common.{◌≡◌, ◌<◌, length, refl, Some, arith}
+use Rattle.std.proofs.Common.{◌≡◌, Some, arith}
 use Rattle.std.specs.Prelude.{slice_get}
-use Rattle.std.proofs.lemmas.Option.{slice_get_read, slice_get_within}
+use Rattle.std.proofs.lemmas.Option.{slice_get_within}
 use Rattle.hx_linkset.specs.States.{State}
 use Rattle.hx_linkset.specs.Marks.{IsLastMarkBelow}
 use Rattle.hx_linkset.proofs.MarkLaws.{marked-inside}
-use Rattle.hx_linkset.proofs.ClosedLaws.{part-before, closed-begun, under-begun, closed-more, under-more, closed-all}
+use Rattle.hx_linkset.proofs.ClosedLaws.{part-before, marked-step, closed-begun, under-begun, closed-more, under-more, closed-all}
 use Rattle.hx_linkset.proofs.derivations.wanted_for.Goals as goal
 
 pub mark_all-requires : goal.mark_all-requires
@@ -28,16 +28,8 @@ mark_parts-requires c = λ part named.
     let s : State = record { board = c.args.position.now; links = c.args.links.now; steps = c.args.steps.now } in
     let at : IsLastMarkBelow c.loop-place.marks.items c.loop-place.bound c.in-Some.place =
     rw c.as_slice.ensures.value at c.in-Some.ensures in
-    let inside : c.in-Some.place < length c.args.steps.now =
-    omega (
-      arith,
-      marked-inside c.loop-place.marks.items c.in-Some.place at.marked,
-      c.loop-place.invariant.closed.long,
-      c.requires.right.steps_of,
-    ) in
     let there : slice_get c.args.steps.now c.in-Some.place ≡ Some c.index-steps-place.result =
-    slice_get_read c.args.steps.now
-    (length c.args.steps.now) c.in-Some.place c.index-steps-place.result refl inside c.index-steps-place.is in
+    marked-step c.args.player s c.requires.right _ c.loop-place.invariant.closed.long _ at.marked _ c.index-steps-place.is in
     let before = part-before c.args.player s c.requires.right c.in-Some.place c.index-steps-place.result
     (c.loop-place.invariant.closed.live c.in-Some.place at.marked) there part named in
     omega (arith, before.0, marked-inside c.loop-place.marks.items c.in-Some.place at.marked)
@@ -47,16 +39,8 @@ loop-place-preserved c =
     let s : State = record { board = c.args.position.now; links = c.args.links.now; steps = c.args.steps.now } in
     let at : IsLastMarkBelow c.loop-place.marks.items c.loop-place.bound c.in-Some.place =
     rw c.as_slice.ensures.value at c.in-Some.ensures in
-    let inside : c.in-Some.place < length c.args.steps.now =
-    omega (
-      arith,
-      marked-inside c.loop-place.marks.items c.in-Some.place at.marked,
-      c.loop-place.invariant.closed.long,
-      c.requires.right.steps_of,
-    ) in
     let there : slice_get c.args.steps.now c.in-Some.place ≡ Some c.index-steps-place.result =
-    slice_get_read c.args.steps.now
-    (length c.args.steps.now) c.in-Some.place c.index-steps-place.result refl inside c.index-steps-place.is in
+    marked-step c.args.player s c.requires.right _ c.loop-place.invariant.closed.long _ at.marked _ c.index-steps-place.is in
     record {
       closed = closed-more c.args.player s c.requires.right c.loop-place.bound c.in-Some.place c.loop-place.marks.items
           c.mark_parts.new.marks.items c.loop-place.invariant.closed at c.index-steps-place.result there c.mark_parts.ensures;

@@ -1,4 +1,4 @@
-use Rattle.std.proofs.Common.{◌≡◌, ◌-◌, ◌≤◌, length, vec_capacity}
+use Rattle.std.proofs.Common.{◌≡◌, ◌-◌, ◌≤◌, length}
 use Rattle.hx_linkset.specs.Held.{IsPassed}
 use Rattle.hx_linkset.proofs.passes.drop_dead.Given as goal
 
@@ -6,8 +6,7 @@ abbrev pub invariant-loop-place : goal.invariant-loop-place
 invariant-loop-place l = record {
   touched : l.touched ≡ l.initial.touched;
   within : l.from ≤ length l.links;
-  passed : IsPassed l.links l.before l.after l.fn.player l.from l.initial.chains l.chains l.initial.log.items l.log.items;
-  room : vec_capacity l.log ≡ vec_capacity l.initial.log;
+  passed : IsPassed l.links l.before l.after l.fn.player l.from l.initial.chains l.chains l.initial.log l.log;
 }
 
 abbrev pub decreases-loop-place : goal.decreases-loop-place

@@ -33,12 +33,12 @@ grow-requires-clause-inside c =
     let g : GivesFromLive c.self.inside.position c.self.inside.colour c.self.inside.links c.args.step c.args.link =
     subst P (sym c.self.view_is) c.requires.gives in
     rw c.head_for-head.ensures.value
-    (head-inside _ _ _ _ _ (now _ _ _ _ _ _ _ _ _ _ _ _ c.self.invariant) c.args.link (from_live-live _ _ _ c.args.step c.args.link g)
-    (added-small _ _ _ _ _ _ _ _ _ _ _ _ c.self.invariant c.args.link c.args.step g))
+    (head-inside _ _ _ _ _ (now _ _ _ _ _ _ _ _ _ _ _ c.self.invariant) c.args.link (from_live-live _ _ _ c.args.step c.args.link g)
+    (added-small _ _ _ _ _ _ _ _ _ _ _ c.self.invariant c.args.link c.args.step g))
 
 pub grow-requires-clause-room : goal.grow-requires-clause-room
 grow-requires-clause-room c =
-    let held = (now _ _ _ _ _ _ _ _ _ _ _ _ c.self.invariant).hold in
+    let held = (now _ _ _ _ _ _ _ _ _ _ _ c.self.invariant).hold in
     omega (arith, held.next_long, c.self.invariant.keeps.few)
 
 pub invariant_of-self-2 : goal.invariant_of-self-2
@@ -57,7 +57,7 @@ invariant_of-self-2 c =
     let lists : (links : List Link) → length links ≡ c.len-count.result → AreFullLists links c.self.inside.fulls
     → AreFullLists (links ++ c.args.link ∷ []) c.add.new.self =
     when-ok c.add.result _ (rw c.if-is_err-3.false at c.is_err-3.ensures.negation) c.add.ensures.ok in
-    fields-added _ _ _ _ _ _ _ _ _ _ _ _ c.self.invariant c.args.link c.args.step g _ _ c.grow.new.self
+    fields-added _ _ _ _ _ _ _ _ _ _ _ c.self.invariant c.args.link c.args.step g _ _ c.grow.new.self
     pushed
     (rw (c.push_reserved.ensures.items, c.reserve.ensures.items) refl)
     (omega arith) (rw (← c.head_for-head.ensures.value) rings) _ (lists c.self.inside.links (sym count) c.self.invariant.fulls_are)
@@ -73,7 +73,7 @@ invariant_of-self-then-is_err-4 c =
     when-ok c.add.result _ (rw c.if-is_err-3.false at c.is_err-3.ensures.negation) c.add.ensures.ok in
     let pushed : c.push.new.self ≡ c.self.inside.links ++ c.args.link ∷ [] =
     when-ok c.push.result _ (rw c.if-is_err-2.false at c.is_err-2.ensures.negation) c.push.ensures.ok in
-    fields-same _ _ _ _ _ _ _ _ _ _ _ _ c.self.invariant _ _ _ _
+    fields-same _ _ _ _ _ _ _ _ _ _ _ c.self.invariant _ _ _ _
     (c.truncate-then-is_err-4.ensures ∙ cut-again _ c.args.link _ c.push.new.self count pushed) c.reserve.ensures.items rings
     (c.cut.ensures c.self.inside.links (lists c.self.inside.links (sym count) c.self.invariant.fulls_are))
 
@@ -87,7 +87,7 @@ returns-clause-appended c =
     let pushed : c.push.new.self ≡ c.self.inside.links ++ c.args.link ∷ [] =
     when-ok c.push.result _ (rw c.if-is_err-2.false at c.is_err-2.ensures.negation) c.push.ensures.ok in (
       count ∙ ap (λ (s : Standing). length s.present.links) c.self.view_is,
-      seen-added _ _ _ _ _ _ _ _ _ _ _ _ c.self.invariant c.args.link c.args.step g _ _ c.grow.new.self
+      seen-added _ _ _ _ _ _ _ _ _ _ _ c.self.invariant c.args.link c.args.step g _ _ c.grow.new.self
           pushed
           (rw (c.push_reserved.ensures.items, c.reserve.ensures.items) refl)
           ∙ ap (λ (s : Standing). let t : Standing = record s { present = added s.present c.args.link c.args.step } in t) c.self.view_is,

@@ -7,7 +7,7 @@ use Rattle.hx_linkset.proofs.sets.LinkSet.live.Goals as goal
 
 pub new-requires : goal.new-requires
 new-requires c =
-    let held = (now _ _ _ _ _ _ _ _ _ _ _ _ c.self.invariant).hold in
+    let held = (now _ _ _ _ _ _ _ _ _ _ _ c.self.invariant).hold in
     omega (arith, held.next_long)
 
 pub returns : goal.returns
@@ -15,6 +15,6 @@ returns c =
     let most : c.len-most.result ≡ length c.self.inside.links = search rules in
     let P : Standing → Type 0 = λ s. AreLivePairs s c.args.a c.args.b c.new.result in
     subst P c.self.view_is (rw (c.new.ensures, most)
-    (live-pairs _ (right _ _ _ _ _ _ _ _ _ _ _ _ c.self.invariant) c.args.a c.args.b _ _ c.in_order-low.ensures.order
+    (live-pairs _ (right _ _ _ _ _ _ _ _ _ _ _ c.self.invariant) c.args.a c.args.b _ _ c.in_order-low.ensures.order
     c.in_order-low.ensures.low c.in_order-low.ensures.high
-    c.self.inside.chains (now _ _ _ _ _ _ _ _ _ _ _ _ c.self.invariant).hold))
+    c.self.inside.chains (now _ _ _ _ _ _ _ _ _ _ _ c.self.invariant).hold))
