@@ -19,13 +19,12 @@ returns-in_err-settings-in-solve-clause-finds c =
     (λ found options. c.in_err-settings-in-solve.ensures found (searches-choices found.1 found.0 (words_of c.in_ok-name.rest.now) options)))
 
 pub returns-in_ok-settings-in-solve-clause-finds : goal.returns-in_ok-settings-in-solve-clause-finds
-returns-in_ok-settings-in-solve-clause-finds c =
- (
-      words_of c.in_ok-name.rest.now,
-      named (goal.at.returns-in_ok-settings-in-solve-clause-finds c).After-as_str c.in-solve.is,
-      choices-searches c.in_ok-settings-in-solve.plain_tree c.in_ok-settings-in-solve.settings
-          (words_of c.in_ok-name.rest.now) c.in_ok-settings-in-solve.ensures,
-    )
+returns-in_ok-settings-in-solve-clause-finds c = (
+  words_of c.in_ok-name.rest.now,
+  named (goal.at.returns-in_ok-settings-in-solve-clause-finds c).After-as_str c.in-solve.is,
+  choices-searches c.in_ok-settings-in-solve.plain_tree c.in_ok-settings-in-solve.settings
+      (words_of c.in_ok-name.rest.now) c.in_ok-settings-in-solve.ensures,
+)
 
 pub returns-in_ok-settings-in-solve-clause-limits : goal.returns-in_ok-settings-in-solve-clause-limits
 returns-in_ok-settings-in-solve-clause-limits c =
