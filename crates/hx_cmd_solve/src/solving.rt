@@ -122,7 +122,10 @@ fn found<G: Gate + Sync, R: Threads + Wait + Sync>(
         }
     };
     match search(rt, alloc, &position, to_move, settings, plain_tree, gate) {
-        Ok(nodes) => Finding::without_refusal(settings, Answer::Solved(solution_of(&position, nodes))),
+        Ok(nodes) => Finding::without_refusal(
+            settings,
+            Answer::Solved(solution_of(&position, nodes)),
+        ),
         Err(why) => {
             let Finding { answer, tally } = left_open(settings, why);
             Finding {
