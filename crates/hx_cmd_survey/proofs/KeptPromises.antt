@@ -3,7 +3,6 @@ use Rattle.std.proofs.Common.{◌≡◌, ap, ◌∙◌}
 use Rattle.hx_io.specs.Sinks.{Writing, append}
 use Rattle.hx_board.specs.Cells.{Extent}
 use Rattle.hx_limits.specs.declared.settings.Settings.{Settings}
-use Rattle.hx_openings.specs.Openings.{OpeningsAreSmall}
 use Rattle.hx_answers.specs.Endings.{IsWritten}
 use Rattle.hx_finish.specs.declared.finishes.Finish.{Finish}
 use Rattle.hx_finish.proofs.SearchEnds.{said_so, open_so}

@@ -18,7 +18,6 @@ use hx_limits::{RanOut, Settings};
 use hx_pool::run_with_zones;
 use hx_share::book_names_winners;
 use hx_sweep::{is_small, winner as winner_of_small};
-use hx_zones::Zones;
 use std::alloc::Global;
 use std::sync::Wait;
 use std::thread::Threads;
@@ -61,7 +60,7 @@ pub fn winner<G: Gate + Sync, R: Threads + Wait + Sync>(
     answer
 }
 
-/// Who wins by the workers alone, or what ran out.
+/// Who wins by the workers alone, or what ran out. The table of zones is kept in both cases.
 fn winner_by_workers<G: Gate + Sync, R: Threads + Wait + Sync>(
     rt: &R,
     alloc: Global,
@@ -79,35 +78,15 @@ fn winner_by_workers<G: Gate + Sync, R: Threads + Wait + Sync>(
         (λ why. LacksUnit why → 0 < settings.now.budget → HasNoChain position.now) }
     ensures kept { IfSome (size_kept kept.new) (λ size. size ≡ position.now.size) }
 {
-    let table = kept.take_for(alloc, position, settings.budget)?;
-    let answer = winner_with(rt, alloc, &table.zones, position, to_move, settings, gate);
-    kept.keep(table);
-    answer
-}
-
-/// Who wins by the workers with these zones, or what ran out.
-fn winner_with<G: Gate + Sync, R: Threads + Wait + Sync>(
-    rt: &R,
-    alloc: Global,
-    zones: &Zones,
-    position: &Position,
-    to_move: Colour,
-    settings: &Settings,
-    gate: &G,
-) -> Result<Colour, RanOut>
-    requires { AreSettings settings.now }
-    ensures winner { IfOk result (λ winner. Wins winner position.now to_move) }
-    ensures loser { IfOk result (λ winner. ¬ Wins (other_of winner) position.now to_move) }
-    ensures cause { IfErr result (HasCause settings.now) }
-    ensures no_chain { IfErr result
-        (λ why. LacksUnit why → 0 < settings.now.budget → HasNoChain position.now) }
-{
     let errand = OnePosition {
         position: *position,
         to_move,
     };
     let empties = position.empty_count();
-    let searched = run_with_zones(rt, alloc, &errand, zones, empties, settings, gate)?;
+    let table = kept.take_for(alloc, position, settings.budget)?;
+    let searched = run_with_zones(rt, alloc, &errand, &table.zones, empties, settings, gate);
+    kept.keep(table);
+    let searched = searched?;
     book_names_winners(&searched.book);
     let found = searched.end?;
     Ok(found.winner)

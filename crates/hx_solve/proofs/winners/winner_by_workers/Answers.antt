@@ -2,7 +2,7 @@ use Rattle.std.proofs.Common.{rules}
 use Rattle.std.specs.Prelude.{IfErr}
 use Rattle.hx_solve.specs.Searches.{SaysWhy}
 use Rattle.hx_solve.proofs.TreeSolutions.{lack-told}
-use Rattle.hx_solve.proofs.winners.winner_with.Goals as goal
+use Rattle.hx_solve.proofs.winners.winner_by_workers.Goals as goal
 
 pub returns-in_err-found-clause-no_chain : goal.returns-in_err-found-clause-no_chain
 returns-in_err-found-clause-no_chain g c =
