@@ -5,8 +5,8 @@ ghost use Rattle.std.specs.Prelude.{◌≡◌};
 use hx_board::{Vertex, VertexSet};
 use std::marker::Model;
 
-/// The vertices of a set: cells in cell order, then the first side and the last. Contracts see it as what is left of the
-/// set.
+/// The vertices of a set: cells in cell order, then the first side and the last. Contracts see it as what is left of
+/// the set.
 #[derive(Drop)]
 pub struct VertexIter {
     left: VertexSet,

@@ -1,5 +1,5 @@
-//! Serving a session: each line is answered before the next read, up to `quit`, the end, a fault or a limit. What stands
-//! behind the line of `quit` is not looked at.
+//! Serving a session: each line is answered before the next read, up to `quit`, the end, a fault or a limit. What
+//! stands behind the line of `quit` is not looked at.
 
 ghost use Rattle.std.specs.Prelude.{◌≡◌};
 ghost use Rattle.hx_io.specs.Sinks.{SomeWriteFailed};

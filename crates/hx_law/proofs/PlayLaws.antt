@@ -112,8 +112,8 @@ module _ (player : Colour) where
     goal_of_full after mover full (By_answers _ _ some _ free _) = absurd (full some free)
 
     module _ (after : Board) (next : (who : Colour) (cell : ℕ) → IsEmpty after cell → Kept (put after who cell)) where
-      -- ---- with a move more the player makes the move that answers some cell of the opponent's, and the opponent has no
-      -- stone there
+      -- ---- with a move more the player makes the move that answers some cell of the opponent's, and the opponent has
+      -- no stone there
 
       without : (cell : ℕ) → IsAsGood larger larger (put after other cell) after
       without cell = as_good_less larger larger after after (as_good_itself larger after) other cell
