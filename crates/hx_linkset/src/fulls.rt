@@ -114,13 +114,13 @@ impl FullLists {
     {
         let first = link.a.code();
         let second = link.b.code();
-        if self.push(first, seen(index, link, &link.b)).is_err() {
+        if self.push(first, index, link, &link.b).is_err() {
             return Err(Memory);
         }
         if first == second {
             return Ok(());
         }
-        if self.push(second, seen(index, link, &link.a)).is_err() {
+        if self.push(second, index, link, &link.a).is_err() {
             self.pop(first);
             return Err(Memory);
         }
@@ -142,15 +142,21 @@ impl FullLists {
         self.pop(second);
     }
 
-    /// Puts an entry at the end of the list at a code.
-    fn push(&mut self, code: u8, full: FullLink) -> Result<(), Memory>
+    /// Puts the entry of a link that has this other end at the end of the list at a code. The entry is made here, where
+    /// it is put, since to hand it on would copy it once more.
+    fn push(&mut self, code: u8, index: u32, link: &Link, to: &Vertex) -> Result<(), Memory>
         requires { code < VERTICES }
         ensures ok { OnOk result (self.new
-            ≡ slice_set self.old code (slice_index_or self.old code [] ++ full ∷ [])) }
+            ≡ slice_set self.old code (slice_index_or self.old code []
+            ++ record { index = index; to = to.now; carrier = link.now.carrier } ∷ [])) }
         ensures err { OnErr result (self.new ≡ self.old) }
     {
-        let one = [full];
-        if self.lists[code as usize].extend_from_slice(&one).is_err() {
+        let full = FullLink {
+            index,
+            to: *to,
+            carrier: link.carrier,
+        };
+        if self.lists[code as usize].push(full).is_err() {
             return Err(Memory);
         }
         Ok(())
@@ -163,17 +169,6 @@ impl FullLists {
             ≡ slice_set self.old code (without_last (slice_index_or self.old code [])) }
     {
         let _last = self.lists[code as usize].pop();
-    }
-}
-
-/// The entry of a link that has this other end.
-fn seen(index: u32, link: &Link, to: &Vertex) -> FullLink
-    ensures { result ≡ record { index = index; to = to.now; carrier = link.now.carrier } }
-{
-    FullLink {
-        index,
-        to: *to,
-        carrier: link.carrier,
     }
 }
 

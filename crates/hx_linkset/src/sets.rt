@@ -353,7 +353,7 @@ impl LinkSet {
         if let Some(place) = self.covering(&link) {
             return Ok(Added::Covered(place));
         }
-        self.put(link, step)
+        self.put(&link, step)
     }
 
     /// Adds the link that a step gives from live links, where there is room, and looks for no cover: that is for
@@ -366,13 +366,13 @@ impl LinkSet {
         let Some(link) = self.given(&step) else {
             return Ok(Added::Refused);
         };
-        self.put(link, step)
+        self.put(&link, step)
     }
 
     /// Puts a link that a step gives from live links after the others, where there is room. After any other answer than
     /// New, want of memory included, the set is as before, and the step is dropped.
-    fn put(&mut self, link: Link, step: Step) -> Result<Added, Memory>
-        requires { Gives self.old step link }
+    fn put(&mut self, link: &Link, step: Step) -> Result<Added, Memory>
+        requires { Gives self.old step link.now }
         ensures put { IfOk result (IsPut self.old self.new step) }
         ensures memory { OnErr result (self.new ≡ self.old) }
     {
@@ -390,27 +390,27 @@ impl LinkSet {
 
     /// Puts a link that a step gives from live links after the others, and answers its index. Where memory is wanting
     /// the set is as before, and the step is dropped.
-    fn append(&mut self, link: Link, step: Step) -> Result<u32, Memory>
-        requires gives { Gives self.old step link }
+    fn append(&mut self, link: &Link, step: Step) -> Result<u32, Memory>
+        requires gives { Gives self.old step link.now }
         requires room { length self.old.present.links < MOST_LINKS }
         ensures appended { IfOk result (λ index. (index ≡ length self.old.present.links)
-            × (self.new ≡ record self.old { present = added self.old.present link step })) }
+            × (self.new ≡ record self.old { present = added self.old.present link.now step })) }
         ensures memory { OnErr result (self.new ≡ self.old) }
     {
         let count = self.links.len();
         if self.steps.reserve(1).is_err() {
             return Err(Memory);
         }
-        if self.links.push(link).is_err() {
+        if self.links.push(*link).is_err() {
             return Err(Memory);
         }
         let head = head_for(link.kind, &link.a, &link.b);
-        if self.fulls.add(count as u32, &link).is_err() {
+        if self.fulls.add(count as u32, link).is_err() {
             self.links.truncate(count);
             return Err(Memory);
         }
         if self.chains.grow(head).is_err() {
-            self.fulls.cut(&link);
+            self.fulls.cut(link);
             self.links.truncate(count);
             return Err(Memory);
         }

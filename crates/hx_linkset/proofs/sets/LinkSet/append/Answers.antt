@@ -29,12 +29,12 @@ cut-again links link count more is pushed = rw (is, pushed) (take-append-le (len
 
 pub grow-requires-clause-inside : goal.grow-requires-clause-inside
 grow-requires-clause-inside c =
-    let P : Standing → Type 0 = λ s. Gives s c.args.step c.args.link in
-    let g : GivesFromLive c.self.inside.position c.self.inside.colour c.self.inside.links c.args.step c.args.link =
+    let P : Standing → Type 0 = λ s. Gives s c.args.step c.args.link.now in
+    let g : GivesFromLive c.self.inside.position c.self.inside.colour c.self.inside.links c.args.step c.args.link.now =
     subst P (sym c.self.view_is) c.requires.gives in
     rw c.head_for-head.ensures.value
-    (head-inside _ _ _ _ _ (now _ _ _ _ _ _ _ _ _ _ _ c.self.invariant) c.args.link (from_live-live _ _ _ c.args.step c.args.link g)
-    (added-small _ _ _ _ _ _ _ _ _ _ _ c.self.invariant c.args.link c.args.step g))
+    (head-inside _ _ _ _ _ (now _ _ _ _ _ _ _ _ _ _ _ c.self.invariant) c.args.link.now (from_live-live _ _ _ c.args.step c.args.link.now g)
+    (added-small _ _ _ _ _ _ _ _ _ _ _ c.self.invariant c.args.link.now c.args.step g))
 
 pub grow-requires-clause-room : goal.grow-requires-clause-room
 grow-requires-clause-room c =
@@ -43,21 +43,21 @@ grow-requires-clause-room c =
 
 pub invariant_of-self-2 : goal.invariant_of-self-2
 invariant_of-self-2 c =
-    let P : Standing → Type 0 = λ s. Gives s c.args.step c.args.link in
-    let g : GivesFromLive c.self.inside.position c.self.inside.colour c.self.inside.links c.args.step c.args.link =
+    let P : Standing → Type 0 = λ s. Gives s c.args.step c.args.link.now in
+    let g : GivesFromLive c.self.inside.position c.self.inside.colour c.self.inside.links c.args.step c.args.link.now =
     subst P (sym c.self.view_is) c.requires.gives in
     let count : c.len-count.result ≡ length c.self.inside.links =
     c.len-count.ensures.count in
-    let pushed : c.push.new.self ≡ c.self.inside.links ++ c.args.link ∷ [] =
+    let pushed : c.push.new.self ≡ c.self.inside.links ++ c.args.link.now ∷ [] =
     when-ok c.push.result _ (rw c.if-is_err-2.false at c.is_err-2.ensures.negation) c.push.ensures.ok in
     let room : length c.self.inside.links < 8192 =
     omega (arith, c.requires.room, ap (λ (s : Standing). length s.present.links) c.self.view_is) in
     let rings : c.grow.new.self ≡ grown c.self.inside.chains c.head_for-head.result =
     when-ok c.grow.result _ (rw c.if-is_err-4.false at c.is_err-4.ensures.negation) c.grow.ensures.ok in
     let lists : (links : List Link) → length links ≡ c.len-count.result → AreFullLists links c.self.inside.fulls
-    → AreFullLists (links ++ c.args.link ∷ []) c.add.new.self =
+    → AreFullLists (links ++ c.args.link.now ∷ []) c.add.new.self =
     when-ok c.add.result _ (rw c.if-is_err-3.false at c.is_err-3.ensures.negation) c.add.ensures.ok in
-    fields-added _ _ _ _ _ _ _ _ _ _ _ c.self.invariant c.args.link c.args.step g _ _ c.grow.new.self
+    fields-added _ _ _ _ _ _ _ _ _ _ _ c.self.invariant c.args.link.now c.args.step g _ _ c.grow.new.self
     pushed
     (rw (c.push_reserved.ensures.items, c.reserve.ensures.items) refl)
     (omega arith) (rw (← c.head_for-head.ensures.value) rings) _ (lists c.self.inside.links (sym count) c.self.invariant.fulls_are)
@@ -69,26 +69,26 @@ invariant_of-self-then-is_err-4 c =
     let rings : c.grow.new.self ≡ c.self.inside.chains =
     when-err c.grow.result _ (rw c.if-is_err-4.true at c.is_err-4.ensures.negation) c.grow.ensures.err in
     let lists : (links : List Link) → length links ≡ c.len-count.result → AreFullLists links c.self.inside.fulls
-    → AreFullLists (links ++ c.args.link ∷ []) c.add.new.self =
+    → AreFullLists (links ++ c.args.link.now ∷ []) c.add.new.self =
     when-ok c.add.result _ (rw c.if-is_err-3.false at c.is_err-3.ensures.negation) c.add.ensures.ok in
-    let pushed : c.push.new.self ≡ c.self.inside.links ++ c.args.link ∷ [] =
+    let pushed : c.push.new.self ≡ c.self.inside.links ++ c.args.link.now ∷ [] =
     when-ok c.push.result _ (rw c.if-is_err-2.false at c.is_err-2.ensures.negation) c.push.ensures.ok in
     fields-same _ _ _ _ _ _ _ _ _ _ _ c.self.invariant _ _ _ _
-    (c.truncate-then-is_err-4.ensures ∙ cut-again _ c.args.link _ c.push.new.self count pushed) c.reserve.ensures.items rings
+    (c.truncate-then-is_err-4.ensures ∙ cut-again _ c.args.link.now _ c.push.new.self count pushed) c.reserve.ensures.items rings
     (c.cut.ensures c.self.inside.links (lists c.self.inside.links (sym count) c.self.invariant.fulls_are))
 
 pub returns-clause-appended : goal.returns-clause-appended
 returns-clause-appended c =
-    let P : Standing → Type 0 = λ s. Gives s c.args.step c.args.link in
-    let g : GivesFromLive c.self.inside.position c.self.inside.colour c.self.inside.links c.args.step c.args.link =
+    let P : Standing → Type 0 = λ s. Gives s c.args.step c.args.link.now in
+    let g : GivesFromLive c.self.inside.position c.self.inside.colour c.self.inside.links c.args.step c.args.link.now =
     subst P (sym c.self.view_is) c.requires.gives in
     let count : c.len-count.result ≡ length c.self.inside.links =
     c.len-count.ensures.count in
-    let pushed : c.push.new.self ≡ c.self.inside.links ++ c.args.link ∷ [] =
+    let pushed : c.push.new.self ≡ c.self.inside.links ++ c.args.link.now ∷ [] =
     when-ok c.push.result _ (rw c.if-is_err-2.false at c.is_err-2.ensures.negation) c.push.ensures.ok in (
       count ∙ ap (λ (s : Standing). length s.present.links) c.self.view_is,
-      seen-added _ _ _ _ _ _ _ _ _ _ _ c.self.invariant c.args.link c.args.step g _ _ c.grow.new.self
+      seen-added _ _ _ _ _ _ _ _ _ _ _ c.self.invariant c.args.link.now c.args.step g _ _ c.grow.new.self
           pushed
           (rw (c.push_reserved.ensures.items, c.reserve.ensures.items) refl)
-          ∙ ap (λ (s : Standing). let t : Standing = record s { present = added s.present c.args.link c.args.step } in t) c.self.view_is,
+          ∙ ap (λ (s : Standing). let t : Standing = record s { present = added s.present c.args.link.now c.args.step } in t) c.self.view_is,
     )

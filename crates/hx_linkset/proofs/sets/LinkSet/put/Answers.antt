@@ -7,7 +7,7 @@ returns-in-Ok-clause-put c =
     let other = c.if-count-eq-MOST_LINKS.false in
     let count = c.count-count.ensures in
     record {
-      link = c.args.link;
+      link = c.args.link.now;
       gives = c.requires;
       place_is = c.in-Ok.ensures.appended.0;
       small = omega (arith, few, other, count, c.in-Ok.ensures.appended.0);
