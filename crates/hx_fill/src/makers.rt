@@ -40,11 +40,12 @@ pub(crate) fn makers_of(view: &View, cell: Cell, around: VertexSet, among: Mask)
     requires among { (n : ℕ) → has among n ≡ true → IsEmpty view.now.board n }
     ensures { AreMakers view.now.board view.now.player cell among result }
 {
-    let all = Makers {
+    let mut makers = Makers {
         is_dead: true,
         cells: among.without(cell),
     };
-    narrowed_by(view, &all, around)
+    narrow_by(view, &mut makers, around);
+    makers
 }
 
 /// The first of some cells, each of which makes the cell dead, that is a pair with the cell.
@@ -68,42 +69,39 @@ pub(crate) fn partner_of(view: &View, cell: Cell, makers: Mask) -> Option<Cell>
     None
 }
 
-/// What is left of the makers after a look at each of some vertices.
-fn narrowed_by(view: &View, makers: &Makers, around: VertexSet) -> Makers
+/// Leaves those of the makers that are left after a look at each of some vertices.
+fn narrow_by(view: &View, makers: &mut Makers, around: VertexSet)
     requires around { AreVertices view.now.board.size around }
-    requires makers { (n : ℕ) → has makers.now.cells n ≡ true → OnBoard view.now.board.size n }
-    ensures { AreNarrowed view.now.board view.now.player around 0 makers.now result }
+    requires makers { (n : ℕ) → has makers.old.cells n ≡ true → OnBoard view.now.board.size n }
+    ensures { AreNarrowed view.now.board view.now.player around 0 makers.old makers.new }
 {
     // The proof takes from here that the position's board is one.
     let _size = view.position().size();
-    let mut found = *makers;
     for vertex in each_vertex(around) {
-        found = narrowed(view, &found, around, vertex);
+        narrow(view, makers, around, vertex);
         // For most cells no maker is left after a few neighbours.
-        if has_none(&found) {
-            return found;
+        if has_none(makers) {
+            return;
         }
     }
-    found
 }
 
-/// What is left of the makers after a look at one of some vertices.
-fn narrowed(view: &View, makers: &Makers, around: VertexSet, vertex: Vertex) -> Makers
+/// Leaves those of the makers that are left after a look at one of some vertices. They are changed in their place: that
+/// is done very often, and to write a struct anew and to copy it at once makes the copy wait.
+fn narrow(view: &View, makers: &mut Makers, around: VertexSet, vertex: Vertex)
     requires around { AreVertices view.now.board.size around }
     requires vertex { IsVertex view.now.board.size vertex }
-    requires makers { (n : ℕ) → has makers.now.cells n ≡ true → OnBoard view.now.board.size n }
-    ensures { IsNarrowed view.now.board view.now.player around vertex makers.now result }
+    requires makers { (n : ℕ) → has makers.old.cells n ≡ true → OnBoard view.now.board.size n }
+    ensures { IsNarrowed view.now.board view.now.player around vertex makers.old makers.new }
 {
     // The proof takes from here that the position's board is one.
     let _size = view.position().size();
     let joined = view.joined_with(vertex);
     if around.inside(joined) {
-        return *makers;
+        return;
     }
-    Makers {
-        is_dead: false,
-        cells: makers.cells.meet(joined.cells()),
-    }
+    makers.is_dead = false;
+    makers.cells = makers.cells.meet(joined.cells());
 }
 
 /// Whether the cell is not dead and has no maker.

@@ -5,6 +5,6 @@ use Rattle.hx_fill.proofs.makers.makers_of.Goals as goal
 pub returns : goal.returns
 returns c =
     makers-are c.args.view.now.board c.args.view.now.player c.args.cell c.args.around c.requires.around c.requires.empty c.args.among
-    (record { is_dead = true; cells = c.without.result }) c.narrowed_by.result refl
+    (record { is_dead = true; cells = c.without.result }) c.narrow_by.new.makers refl
     (others_are c.args.view.now.board c.args.among c.args.cell c.without.result c.without.ensures.set c.requires.among)
-    c.narrowed_by.ensures
+    c.narrow_by.ensures
