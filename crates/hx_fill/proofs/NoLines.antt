@@ -1,8 +1,7 @@
 -- No line is right for any cells.
-use Rattle.std.proofs.Common.{ℕ, List, [], arith}
+use Rattle.std.proofs.Common.{ℕ, [], arith}
 use Rattle.hx_board.specs.declared.colours.Colour.{Colour}
 use Rattle.hx_board.specs.Positions.{Board}
-use Rattle.hx_tree.specs.declared.nodes.Line.{Line}
 use Rattle.hx_fill.specs.Unders.{AreUnder}
 
 pub none-under : (board : Board) (mover : Colour) (cells : ℕ) → AreUnder board mover cells []

@@ -13,7 +13,7 @@ use hx_board::{CELLS, Cell, Mask, Size};
 use hx_cells::each_cell;
 
 /// For each of some empty cells, at its index, those of them that it can be better than.
-pub(crate) fn candidates_of(both: &BothGroups, size: Size, cells: Mask) -> [Mask; CELLS]
+pub(crate) fn candidates_of(both: &BothGroups<'_>, size: Size, cells: Mask) -> [Mask; CELLS]
     requires size { both.now.position.size ≡ size }
     requires cells { AreEmpties both.now.position cells }
     ensures { HoldDominated both.now.position both.now.mover cells 0 result }

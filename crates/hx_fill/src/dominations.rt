@@ -22,17 +22,19 @@ use hx_inferior::{Kill, open_around};
 
 /// A position and the player to move, with what is joined for each player.
 #[derive(Drop)]
-pub(crate) struct BothGroups {
+pub(crate) struct BothGroups<'a> {
     position: Position,
     mover: Colour,
     own: Groups,
-    others: Groups,
+    others: &'a Groups,
     ghost own_grouped: { own ≡ record { board = position; player = mover } },
-    ghost others_grouped: { others ≡ record { board = position; player = other_of mover } },
+    ghost others_grouped: { others.now ≡ record { board = position; player = other_of mover } },
 }
 
-impl BothGroups {
-    pub(crate) fn of(position: &Position, mover: Colour) -> BothGroups
+impl<'a> BothGroups<'a> {
+    /// Of the mover's opponent the groups are known.
+    pub(crate) fn of(position: &Position, mover: Colour, others: &'a Groups) -> BothGroups<'a>
+        requires { others.now ≡ record { board = position.now; player = other_of mover } }
         ensures position { result.position ≡ position.now }
         ensures mover { result.mover ≡ mover }
     {
@@ -40,7 +42,7 @@ impl BothGroups {
             position: *position,
             mover,
             own: Groups::of(position, mover),
-            others: Groups::of(position, mover.other()),
+            others,
         }
     }
 
@@ -56,7 +58,7 @@ impl BothGroups {
     {
         // The proof takes from here that the position's board is one.
         let _size = self.position.size();
-        let others = View::of(&self.position, self.mover.other(), &self.others);
+        let others = View::of(&self.position, self.mover.other(), self.others);
         let makers = makers_of(&others, cell, around, Mask::empty());
         if makers.is_dead {
             return self.position.empties();
@@ -112,7 +114,7 @@ impl BothGroups {
         // The proof takes from here that the position's board is one.
         let _size = self.position.size();
         let other = self.mover.other();
-        let others = View::after(&self.position, other, &self.others, self.mover, better);
+        let others = View::after(&self.position, other, self.others, self.mover, better);
         let open = open_around(&self.position, other, worse);
         let around = open.without(Vertex::Of(better));
         let makers = makers_of(&others, worse, around, Mask::empty());

@@ -29,7 +29,14 @@ pub fn must(set: &LinkSet, order: &[Cell]) -> Result<musts::Must, Memory>
     let found = threats_of(set)?;
     let KeptThreats { places, cells } = found;
     let mover = set.colour().other();
-    let under = under_lines(set.allocator(), set.position(), mover, cells, order)?;
+    let under = under_lines(
+        set.allocator(),
+        set.position(),
+        mover,
+        set.groups(),
+        cells,
+        order,
+    )?;
     Ok(musts::Must {
         threats: Threats::new(places),
         cells,

@@ -10,6 +10,7 @@
 ghost use Rattle.std.specs.Prelude.{◌≡◌, ◌≢◌, ℕ, ◌+◌, ◌++◌, ◌∷◌, [], List, length, slice_get, true, false, IfOk, OnOk};
 ghost use Rattle.std.specs.declared.option.Option.{Option};
 ghost use Rattle.std.specs.declared.option.Option.TheVariants.{Some};
+ghost use Rattle.hx_board.specs.Colours.{other_of};
 ghost use Rattle.hx_board.specs.Sets.{has, remove, difference, IsSubset};
 ghost use Rattle.hx_board.specs.Cells.{OnBoard};
 ghost use Rattle.hx_board.specs.Positions.{IsEmpty};
@@ -20,7 +21,7 @@ ghost use Rattle.hx_fill.specs.Unders.{AreEmpties, AreUnder, LeaveNoneDominated,
 use crate::candidates::candidates_of;
 use crate::choices::{Better, Choices};
 use crate::dominations::BothGroups;
-use hx_board::{CELLS, Cell, Colour, Mask, Memory, Position, Size};
+use hx_board::{CELLS, Cell, Colour, Groups, Mask, Memory, Position, Size};
 use hx_cells::each_cell;
 use hx_tree::{Line, Lines};
 use std::alloc::Global;
@@ -45,21 +46,23 @@ struct Sieve {
 }
 
 /// Lines for the cells, among some empty ones, than which another one of these is better for the mover. They come
-/// in the order, and then, in cell order, those that the order leaves out.
+/// in the order, and then, in cell order, those that the order leaves out. The groups are those of the mover's opponent.
 pub(crate) fn under_lines(
     alloc: Global,
     position: &Position,
     mover: Colour,
+    others: &Groups,
     cells: Mask,
     order: &[Cell],
 ) -> Result<Lines, Memory>
-    requires { AreEmpties position.now cells }
+    requires cells { AreEmpties position.now cells }
+    requires others { others.now ≡ record { board = position.now; player = other_of mover } }
     ensures under { IfOk result (λ lines. AreUnder position.now mover cells lines) }
     ensures none_dominated { IfOk result (λ lines.
         LeaveNoneDominated position.now mover cells lines) }
     ensures order { IfOk result (λ lines. AreByOrder position.now mover cells order.now lines) }
 {
-    let both = BothGroups::of(position, mover);
+    let both = BothGroups::of(position, mover, others);
     let size = position.size();
     let candidates = candidates_of(&both, size, cells);
     let mut sieve = Sieve::of(cells);
@@ -88,7 +91,7 @@ impl Sieve {
     /// The cells of the order come.
     fn go_by_order(
         &mut self,
-        both: &BothGroups,
+        both: &BothGroups<'_>,
         size: Size,
         candidates: &[Mask; CELLS],
         order: &[Cell],
@@ -110,7 +113,7 @@ impl Sieve {
     }
 
     /// The other cells come, in cell order.
-    fn go_on(&mut self, both: &BothGroups, size: Size, candidates: &[Mask; CELLS])
+    fn go_on(&mut self, both: &BothGroups<'_>, size: Size, candidates: &[Mask; CELLS])
         requires size { both.now.position.size ≡ size }
         requires cells { AreEmpties both.now.position self.old.cells }
         requires candidates { HoldDominated both.now.position both.now.mover self.old.cells 0
@@ -132,7 +135,7 @@ impl Sieve {
     /// A cell comes at its place in the order, where it still waits.
     fn come_if_waiting(
         &mut self,
-        both: &BothGroups,
+        both: &BothGroups<'_>,
         size: Size,
         candidates: &[Mask; CELLS],
         cell: Cell,
@@ -158,7 +161,7 @@ impl Sieve {
     }
 
     /// A cell comes.
-    fn come(&mut self, both: &BothGroups, size: Size, candidates: &[Mask; CELLS], better: Cell)
+    fn come(&mut self, both: &BothGroups<'_>, size: Size, candidates: &[Mask; CELLS], better: Cell)
         requires size { both.now.position.size ≡ size }
         requires cells { AreEmpties both.now.position self.old.without_line }
         requires candidates { HoldDominated both.now.position both.now.mover
@@ -206,7 +209,13 @@ impl Sieve {
 }
 
 /// Gives each of some cells that the better one dominates that one, and tells which cells these are.
-fn kill_all(choices: &mut Choices, both: &BothGroups, size: Size, better: Cell, cells: Mask) -> Mask
+fn kill_all(
+    choices: &mut Choices,
+    both: &BothGroups<'_>,
+    size: Size,
+    better: Cell,
+    cells: Mask,
+) -> Mask
     requires size { both.now.position.size ≡ size }
     requires cells { AreEmpties both.now.position cells }
     requires better { IsEmpty both.now.position better }
@@ -224,7 +233,7 @@ fn kill_all(choices: &mut Choices, both: &BothGroups, size: Size, better: Cell, 
 /// Gives a cell the better one where that dominates it. The cell is added to those that were killed before.
 fn kill_one(
     choices: &mut Choices,
-    both: &BothGroups,
+    both: &BothGroups<'_>,
     better: Cell,
     worse: Cell,
     killed: Mask,
