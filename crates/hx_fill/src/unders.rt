@@ -46,7 +46,8 @@ struct Sieve {
 }
 
 /// Lines for the cells, among some empty ones, than which another one of these is better for the mover. They come
-/// in the order, and then, in cell order, those that the order leaves out. The groups are those of the mover's opponent.
+/// in the order, and then, in cell order, those that the order leaves out. The groups are those of the mover's
+/// opponent.
 pub(crate) fn under_lines(
     alloc: Global,
     position: &Position,
